@@ -1,0 +1,9 @@
+pub mod Advance
+pub mod Bytes
+pub mod Cost
+pub mod Ids
+pub mod Join
+pub mod Laws
+pub mod Passes
+pub mod Ratchet
+pub mod Suite
