@@ -1,5 +1,5 @@
 -- Writing one piece after another into an output.
-use Prim.Native.Nat.{ℕ, zero, suc, _+_, _-_, _/_, _%_, _^_, _≤_}
+use Prim.Native.Nat.{ℕ, zero, suc, _+_, _-_, _/_, _%_, _^_, _≤_, _<_}
 use mathlib.Core.Path.{_≡_, refl, sym, ap, _∙_}
 use mathlib.Core.List.{List, [], _∷_, _++_, append-assoc}
 use native.Mathlib.Nat.{zero-add}
@@ -7,8 +7,12 @@ use native.Mathlib.Omega.{arith}
 use borrow.Rule.Slice.PartMut.{putMid}
 use lib.ListN.{length, take, drop, length-append, length-take, length-drop}
 use lib.Seq.{drop-drop, take-at, drop-at}
+use Rattle.std.specs.declared.result.Result.the-variants.{Ok, Err}
 use Rattle.std.proofs.shelf.Lists.{length-take-le}
+use Rattle.std.proofs.shelf.Tests.{lt-leb, cond-false}
 use Rattle.ratchet.specs.Bytes.{be, laid}
+use Rattle.copy_bytes.specs.declared.output.SpaceRefusal.the-variants.{TooSmall}
+use Rattle.copy_bytes.specs.Output.{fits, answered, filled}
 use Rattle.copy_bytes.specs.Placed.{placed, Put}
 
 -- a write to the part from a to e
@@ -53,3 +57,9 @@ put-laid {b} {xs} {old} f = f .holds ∙ placed-laid xs old
 pub be-last : (n v : ℕ) → take n (be (suc n) v) ++ (v % 256 ∷ []) ≡ be (suc n) v
 be-last zero v = let z : v % 256 ≡ v / 1 % 256 = omega arith in ap (λ x. x ∷ []) z
 be-last (suc n) v = ap (λ bs. (v / 256 ^ suc n % 256) ∷ bs) (be-last n v)
+
+-- an output that is too short is refused as it was
+pub too-small : (xs out : List ℕ) (n : ℕ) → length xs ≡ n → length out < n → (Err TooSmall ≡ answered xs out) × (out ≡ filled xs out)
+too-small xs out n long short =
+    let no = lt-leb (length xs) (length out) (omega arith) in
+    (sym (cond-false (fits xs out) _ _ no), sym (cond-false (fits xs out) _ _ no))

@@ -40,20 +40,20 @@ copy-bytes m v n = (version-byte m v ∷ []) ++ (be 4 (n .copy .index) ++ (part-
 abbrev pub part-at : {P : Type 0} → Meaning P → ℕ → List ℕ → P
 part-at m at bs = m .decode (take (m .width) (drop at bs))
 
--- the copy at an index whose parts begin some bytes
-unfoldable pub copy-of : {P : Type 0} → Meaning P → ℕ → List ℕ → SessionCopy P
-copy-of m i bs = record {
+-- the copy at the index i whose parts stand from a place on
+unfoldable pub copy-of : {P : Type 0} → Meaning P → ℕ → ℕ → List ℕ → SessionCopy P
+copy-of m i at bs = record {
   index = i;
-  r0 = part-at m 0 bs;
-  r1 = part-at m (m .width) bs;
-  r2 = part-at m (2 * m .width) bs;
-  r3 = part-at m (3 * m .width) bs;
+  r0 = part-at m at bs;
+  r1 = part-at m (at + m .width) bs;
+  r2 = part-at m (at + 2 * m .width) bs;
+  r3 = part-at m (at + 3 * m .width) bs;
 }
 
 unfoldable pub named-of : {P : Type 0} → Meaning P → List ℕ → NamedCopy P
 named-of m bs = record {
   id = id-of (drop (5 + 4 * m .width) bs);
-  copy = copy-of m (number 256 (take 4 (drop 1 bs))) (drop 5 bs);
+  copy = copy-of m (number 256 (take 4 (drop 1 bs))) 5 bs;
 }
 
 -- the length is asked before the version byte
@@ -63,7 +63,7 @@ read-copy m a bs =
 
 -- the bytes that a sender starts from: four parts, at index 0
 abbrev pub read-start : {P : Type 0} → Meaning P → List ℕ → Result (SessionCopy P) CopyFault
-read-start m bs = cond (eqb (length bs) (4 * m .width)) (Ok (copy-of m 0 bs)) (Err WrongLength)
+read-start m bs = cond (eqb (length bs) (4 * m .width)) (Ok (copy-of m 0 0 bs)) (Err WrongLength)
 
 abbrev pub read-id : List ℕ → Result Id CopyFault
 read-id bs = cond (eqb (length bs) 32) (Ok (id-of bs)) (Err WrongLength)

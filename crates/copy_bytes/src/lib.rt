@@ -2,3 +2,4 @@
 pub mod named;
 pub mod output;
 mod placing;
+pub mod writing;
