@@ -172,6 +172,19 @@ within-some (Some (w, j)) v k e =
       | inr h ↦ (let f = sym (cond-false (ltb w (2 ^ 32)) (Some (w, j)) None (le-ltb w (2 ^ 32) h)) ∙ e in let z : _≡_ {A = ℕ} 0 1 = cc in absurd (omega arith))
     ]
 
+-- the bytes read are there
+read-fits : (bs : List ℕ) (v k : ℕ) → read-groups bs ≡ Some (v, k) → k ≤ length bs
+unfolding read-groups
+read-fits [] v k e = let z : _≡_ {A = ℕ} 0 1 = cc in absurd (omega arith)
+read-fits (b ∷ bs) v k e =
+    elim (cases-lt b 128) [
+      | inl low ↦ omega (arith, same-pair b 1 v k (sym (last-is b bs low) ∙ e) .1)
+      | inr high ↦ (let (w, j, is, ne, ev, ek) = above (b - 128) v k (read-groups bs) (sym (read-more b bs high) ∙ e) in omega (arith, read-fits bs w j is, ek))
+    ]
+
+pub varint-fits : (bs : List ℕ) (v k : ℕ) → read-varint bs ≡ Some (v, k) → k ≤ length bs
+varint-fits bs v k e = read-fits bs v k (within-some (read-groups bs) v k e .0)
+
 pub varint-laws : Varint-laws
 varint-laws = record {
   back = λ v rest h. ap within (read-back 4 v rest (omega arith)) ∙ cond-true _ _ _ (lt-ltb v (2 ^ 32) h);

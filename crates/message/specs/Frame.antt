@@ -32,17 +32,20 @@ keyed key (b ∷ bs) = cond (eqb b key) (read-varint bs) None
 abbrev pub starts : {P : Type 0} → Meaning P → List ℕ → Bool
 starts m bs = (leb 1 (length bs) && leb (length bs) 4130) && eqb (getD bs 0 0) (m .message-byte)
 
--- the number n read behind 0x12 has k bytes; the cipher then has to leave 8 bytes for the tag, and an allowed length
-abbrev pub with-size : {P : Type 0} → Meaning P → List ℕ → ℕ → ℕ → Option (ℕ × ℕ) → Result Frame FrameFault
-with-size m bs index at None = Err Cipher
-with-size m bs index at (Some (n, k)) =
+-- a cipher of n bytes that stand from a place on: they have to leave the 8 bytes of the tag, and the suite has to allow n
+abbrev pub sized : {P : Type 0} → Meaning P → List ℕ → ℕ → ℕ → Option (ℕ × ℕ) → Result Frame FrameFault
+sized m bs index at None = Err Cipher
+sized m bs index at (Some (n, k)) =
     cond (eqb (length bs) (at + 1 + k + n + 8)) (cond (m .allowed n) (Ok (record { index = index; from = at + 1 + k; size = n })) (Err Length)) (Err Cipher)
 
--- the index read behind 0x08 has k bytes
-abbrev pub with-index : {P : Type 0} → Meaning P → List ℕ → Option (ℕ × ℕ) → Result Frame FrameFault
-with-index m bs None = Err Index
-with-index m bs (Some (index, k)) = with-size m bs index (2 + k) (keyed 18 (drop (2 + k) bs))
+-- 0x12 and the cipher's length stand where the index ends
+abbrev pub cipher-at : {P : Type 0} → Meaning P → List ℕ → ℕ → ℕ → Result Frame FrameFault
+cipher-at m bs index at = sized m bs index at (keyed 18 (drop at bs))
 
--- the index of a message and where its cipher stands, or the first of these that is wrong: start, index, cipher, cipher length
+abbrev pub indexed : {P : Type 0} → Meaning P → List ℕ → Option (ℕ × ℕ) → Result Frame FrameFault
+indexed m bs None = Err Index
+indexed m bs (Some (index, k)) = cipher-at m bs index (2 + k)
+
+-- the index of a message and where its cipher stands, or the first that is wrong of the start, the index, the cipher and its length
 unfoldable pub framed : {P : Type 0} → Meaning P → List ℕ → Result Frame FrameFault
-framed m bs = cond (starts m bs) (with-index m bs (keyed 8 (drop 1 bs))) (Err Start)
+framed m bs = cond (starts m bs) (indexed m bs (keyed 8 (drop 1 bs))) (Err Start)
