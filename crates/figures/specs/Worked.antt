@@ -19,7 +19,11 @@ use Rattle.ratchet.specs.Advance.{advanced, stepped}
 use Rattle.ratchet.specs.Join.{equal, join}
 use Rattle.bench_suite.specs.declared.word.Word.{Word}
 use Rattle.bench_suite.specs.Bench.{word, bench}
-use Rattle.figures.specs.Numbers.{advance-number}
+use Rattle.message.specs.declared.frame.Frame.{Frame}
+use Rattle.message.specs.declared.frame.FrameFault.{FrameFault}
+use Rattle.message.specs.Varint.{varint, read-varint}
+use Rattle.message.specs.Frame.{framed}
+use Rattle.figures.specs.Numbers.{advance-number, frame-number}
 
 -- what a row says of a call: the number that it answers, or the number of its refusal
 pub data Answer : Type 0 where
@@ -31,6 +35,10 @@ pub data Row : Type 0 where
   advance : ℕ → ℕ → Answer → Row
   -- the part R3 that one step from four zero parts makes
   one-step : ℕ → Row
+  -- a number and its varint, each from the other
+  in-groups : ℕ → List ℕ → Row
+  -- a message, and the index that it has or the refusal
+  index-of : List ℕ → Answer → Row
   -- a holding, those that come in after it, and what is then held
   taken : Holding Word → List (Holding Word) → Holding Word → Row
 
@@ -58,9 +66,25 @@ is-holding (Held a) Disputed = false
 is-holding Disputed (Held b) = false
 is-holding Disputed Disputed = true
 
+abbrev pub is-bytes : List ℕ → List ℕ → Bool
+is-bytes [] [] = true
+is-bytes [] (b ∷ bs) = false
+is-bytes (x ∷ xs) [] = false
+is-bytes (x ∷ xs) (b ∷ bs) = eqb x b && is-bytes xs bs
+
+abbrev pub is-number : ℕ → Option (ℕ × ℕ) → Bool
+is-number n (Some (m, size)) = eqb m n
+is-number n None = false
+
+abbrev pub frame-index : Result Frame FrameFault → Answer
+frame-index (Ok frame) = answers (frame .index)
+frame-index (Err fault) = refuses (frame-number fault)
+
 abbrev pub holds : Row → Bool
 holds (advance from to answer) = is-answer (hashes-of (advanced (bench .hash) (copy from 0) to)) answer
 holds (one-step r3) = has-r3 r3 (stepped (bench .hash) (copy 0 0))
+holds (in-groups n bytes) = is-bytes (varint n) bytes && is-number n (read-varint bytes)
+holds (index-of message answer) = is-answer (frame-index (framed bench message)) answer
 holds (taken first rest held) = is-holding (folded (join bench) first rest) held
 
 abbrev pub table : List Row
@@ -72,6 +96,8 @@ table = advance 0 300 (answers 46)
     ∷ advance 7 7 (answers 0)
     ∷ advance 8 7 (refuses 21)
     ∷ one-step 0x9E3779B97F4A7C16
+    ∷ in-groups 300 (0xAC ∷ 0x02 ∷ [])
+    ∷ index-of (0x43 ∷ 0x08 ∷ 0x80 ∷ 0x00 ∷ []) (refuses 8)
     -- an agreeing copy at 0 after one at 5
     ∷ taken (Held (steps (bench .hash) 5 (copy 0 0))) (Held (copy 0 0) ∷ []) (Held (copy 0 0))
     -- zero parts and then R3 = 1 at one index, and the zeros once more
