@@ -1,0 +1,8 @@
+// What a store means, its keys and values, and the keyed table over the caller's slots.
+pub mod keys;
+pub mod meaning;
+pub mod refusal;
+pub mod sighting;
+pub mod slot;
+pub mod spot;
+pub mod values;
