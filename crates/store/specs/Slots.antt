@@ -6,8 +6,8 @@ use lib.Dec.{eqb, ltb}
 use Rattle.std.specs.declared.option.Option.{Option}
 use Rattle.std.specs.declared.option.Option.the-variants.{Some, None}
 use Rattle.std.specs.Options.{mapped}
-use Rattle.store.specs.declared.slot.Slot.{Slot}
-use Rattle.store.specs.declared.slot.Slot.the-variants.{Free, Held}
+use Rattle.store.specs.declared.slots.Slot.{Slot}
+use Rattle.store.specs.declared.slots.Slot.the-variants.{Free, Held}
 use Rattle.store.specs.Maps.{put}
 use Rattle.store.specs.Meaning.{Meaning}
 

@@ -3,6 +3,7 @@ pub mod keys;
 pub mod meaning;
 pub mod refusal;
 pub mod sighting;
-pub mod slot;
+pub mod slots;
 pub mod spot;
+pub mod table;
 pub mod values;
