@@ -1,4 +1,4 @@
-use mathlib.Core.Path.{_≡_, ap, _∙_}
+use mathlib.Core.Path.{ap}
 use Rattle.store.specs.Slots.{is-free}
 use Rattle.store.proofs.Places.{sought-more, sought-hit, sought-all}
 use Rattle.store.proofs.slots.free_place.Needs as need

@@ -1,4 +1,4 @@
-use mathlib.Core.Path.{_≡_, ap, sym, _∙_}
+use mathlib.Core.Path.{sym}
 use Prim.Native.Nat.{_<_}
 use lib.ListN.{length}
 use borrow.Author.Needs.{needs}
@@ -16,10 +16,14 @@ pub index-slots-i : need.index-slots-i
 index-slots-i g c = place-at (has-key (g .K·Key .rank) (c .args .key)) _ _ (c .in-Some .ensures tt) .within
 
 pub returns-in-Held : need.returns-in-Held
-returns-in-Held g c = key-shown (g .K·Key .rank) (c .args .slots .now) (c .args .key) (c .in-Some .i) (c .index-slots-i .result) (c .in-Held .field-0) (c .in-Held .v) (c .in-Some .ensures tt) (c .index-slots-i .is) (c .in-Held .is)
+returns-in-Held g c =
+    key-shown (g .K·Key .rank) (c .args .slots .now) (c .args .key) (c .in-Some .i) (c .index-slots-i .result) (c .in-Held .field-0) (c .in-Held .v)
+    (c .in-Some .ensures tt) (c .index-slots-i .is) (c .in-Held .is)
 
 pub returns-in-Free : need.returns-in-Free
-returns-in-Free g c = absurd (key-held (g .K·Key .rank) (c .args .slots .now) (c .args .key) (c .in-Some .i) (c .index-slots-i .result) (c .in-Some .ensures tt) (c .index-slots-i .is) (c .in-Free .is))
+returns-in-Free g c =
+    absurd (key-held (g .K·Key .rank) (c .args .slots .now) (c .args .key) (c .in-Some .i) (c .index-slots-i .result)
+    (c .in-Some .ensures tt) (c .index-slots-i .is) (c .in-Free .is))
 
 pub returns-in-None : need.returns-in-None
 returns-in-None g c = sym (found-none (g .K·Key .rank) (c .args .slots .now) (c .args .key) (c .in-None .ensures tt))

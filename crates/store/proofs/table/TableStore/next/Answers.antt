@@ -1,4 +1,4 @@
-use mathlib.Core.Path.{_≡_, ap, sym, _∙_}
+use mathlib.Core.Path.{_∙_}
 use Rattle.store.proofs.Rows.{lowest-is, held-rising}
 use Rattle.store.proofs.table.TableStore.next.Needs as need
 
