@@ -3,6 +3,7 @@ use Prim.Native.Nat.{ℕ, _^_, _-_}
 use mathlib.Core.Path.{_≡_}
 use mathlib.Core.Bool.{Bool, true, false, _&&_}
 use mathlib.Core.List.{List, [], _∷_}
+use native.Mathlib.Omega.{arith}
 use lib.Dec.{eqb}
 use Rattle.std.specs.Iters.{folded}
 use Rattle.std.specs.declared.option.Option.{Option}
@@ -16,7 +17,15 @@ use Rattle.ratchet.specs.declared.copies.Advanced.{Advanced}
 use Rattle.ratchet.specs.declared.copies.AdvanceRefusal.{AdvanceRefusal}
 use Rattle.ratchet.specs.Ratchet.{steps}
 use Rattle.ratchet.specs.Advance.{advanced, stepped}
-use Rattle.ratchet.specs.Join.{equal, join}
+use Rattle.ratchet.specs.Join.{equal, join, raised}
+use Rattle.ratchet.specs.declared.ids.Id.{Id}
+use Rattle.ratchet.specs.Ids.{id-number}
+use Rattle.store.specs.declared.sighting.Sighting.{Sighting}
+use Rattle.store.specs.declared.sighting.Sighting.the-variants.{Event, Repeated}
+use Rattle.store.specs.declared.spot.Spot.{Spot}
+use Rattle.store.specs.Keys.{spot-number}
+use Rattle.store.specs.Meaning.{looked, taken}
+use Rattle.store.specs.Sightings.{join-sightings, unraised}
 use Rattle.bench_suite.specs.declared.word.Word.{Word}
 use Rattle.bench_suite.specs.Bench.{word, bench}
 use Rattle.message.specs.declared.frame.Frame.{Frame}
@@ -39,8 +48,10 @@ pub data Row : Type 0 where
   in-groups : ℕ → List ℕ → Row
   -- a message, and the index that it has or the refusal
   index-of : List ℕ → Answer → Row
-  -- a holding, those that come in after it, and what is then held
-  taken : Holding Word → List (Holding Word) → Holding Word → Row
+  -- what a store takes in under one id, one after another, and what is then held
+  held : List (Holding Word) → Holding Word → Row
+  -- the sightings of one message, and what is then in the book
+  sighted : List Sighting → Sighting → Row
 
 -- a copy of the bench suite whose parts are 0, but for R3
 abbrev pub copy : ℕ → ℕ → SessionCopy Word
@@ -60,11 +71,30 @@ abbrev pub has-r3 : ℕ → Option (SessionCopy Word) → Bool
 has-r3 r3 (Some c) = eqb (c .r3 .value) r3
 has-r3 r3 None = false
 
-abbrev pub is-holding : Holding Word → Holding Word → Bool
-is-holding (Held a) (Held b) = equal bench a b
-is-holding (Held a) Disputed = false
-is-holding Disputed (Held b) = false
-is-holding Disputed Disputed = true
+-- what an empty store with one place shows under a key, once it has taken all of these
+abbrev pub shown : {K V : Type 0} → (K → ℕ) → (V → V → V) → (ℕ → V → V) → K → List V → Option V
+shown rank join raise k vs =
+    looked rank (folded (λ m v. taken rank join raise m k v) (record { entries = []; floor = 0; places = 1 }) vs) k
+
+abbrev pub id : Id
+id = record { w0 = 0; w1 = 0; w2 = 0; w3 = 1; fits0 = omega arith; fits1 = omega arith; fits2 = omega arith; fits3 = omega arith }
+
+abbrev pub spot : Spot
+spot = record { id = id; index = 0; fits = omega arith }
+
+abbrev pub is-holding : Holding Word → Option (Holding Word) → Bool
+is-holding (Held a) (Some (Held b)) = equal bench a b
+is-holding Disputed (Some Disputed) = true
+is-holding (Held a) (Some Disputed) = false
+is-holding Disputed (Some (Held b)) = false
+is-holding h None = false
+
+abbrev pub is-sighting : Sighting → Option Sighting → Bool
+is-sighting (Event a) (Some (Event b)) = eqb a b
+is-sighting Repeated (Some Repeated) = true
+is-sighting (Event a) (Some Repeated) = false
+is-sighting Repeated (Some (Event b)) = false
+is-sighting s None = false
 
 abbrev pub is-bytes : List ℕ → List ℕ → Bool
 is-bytes [] [] = true
@@ -85,7 +115,8 @@ holds (advance from to answer) = is-answer (hashes-of (advanced (bench .hash) (c
 holds (one-step r3) = has-r3 r3 (stepped (bench .hash) (copy 0 0))
 holds (in-groups n bytes) = is-bytes (varint n) bytes && is-number n (read-varint bytes)
 holds (index-of message answer) = is-answer (frame-index (framed bench message)) answer
-holds (taken first rest held) = is-holding (folded (join bench) first rest) held
+holds (held hs h) = is-holding h (shown id-number (join bench) (raised bench) id hs)
+holds (sighted ss s) = is-sighting s (shown spot-number join-sightings unraised spot ss)
 
 abbrev pub table : List Row
 table = advance 0 300 (answers 46)
@@ -99,10 +130,12 @@ table = advance 0 300 (answers 46)
     ∷ in-groups 300 (0xAC ∷ 0x02 ∷ [])
     ∷ index-of (0x43 ∷ 0x08 ∷ 0x80 ∷ 0x00 ∷ []) (refuses 8)
     -- an agreeing copy at 0 after one at 5
-    ∷ taken (Held (steps (bench .hash) 5 (copy 0 0))) (Held (copy 0 0) ∷ []) (Held (copy 0 0))
+    ∷ held (Held (steps (bench .hash) 5 (copy 0 0)) ∷ Held (copy 0 0) ∷ []) (Held (copy 0 0))
     -- zero parts and then R3 = 1 at one index, and the zeros once more
-    ∷ taken (Held (copy 0 0)) (Held (copy 0 1) ∷ []) Disputed
-    ∷ taken (Held (copy 0 0)) (Held (copy 0 1) ∷ Held (copy 0 0) ∷ []) Disputed
+    ∷ held (Held (copy 0 0) ∷ Held (copy 0 1) ∷ []) Disputed
+    ∷ held (Held (copy 0 0) ∷ Held (copy 0 1) ∷ Held (copy 0 0) ∷ []) Disputed
+    ∷ sighted (Event 7 ∷ Event 7 ∷ []) (Event 7)
+    ∷ sighted (Event 7 ∷ Event 7 ∷ Event 9 ∷ []) Repeated
     ∷ []
 
 abbrev pub every : {A : Type 0} → (A → Bool) → List A → Bool

@@ -1,0 +1,2 @@
+// What is laid over any store: a floor, and the merge of one store into another.
+pub mod layer;
