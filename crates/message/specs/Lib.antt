@@ -1,2 +1,3 @@
 pub mod Frame
+pub mod Seal
 pub mod Varint
