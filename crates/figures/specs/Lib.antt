@@ -1,2 +1,4 @@
+pub mod Alike
 pub mod Numbers
-pub mod Worked
+pub mod Rows
+pub mod Table

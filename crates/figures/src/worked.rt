@@ -1,4 +1,4 @@
-ghost use Rattle.figures.specs.Worked.{Figures-hold};
+ghost use Rattle.figures.specs.Table.{Figures-hold};
 
 // The definitions that the contracts name give every worked figure.
 pub fn figures_hold() -> u8
