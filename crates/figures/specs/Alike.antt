@@ -3,6 +3,10 @@ use Prim.Native.Nat.{ℕ}
 use mathlib.Core.Bool.{Bool, true, false, _&&_}
 use mathlib.Core.List.{List, [], _∷_}
 use lib.Dec.{eqb}
+use Rattle.std.specs.declared.option.Option.{Option}
+use Rattle.std.specs.declared.option.Option.the-variants.{Some, None}
+use Rattle.std.specs.declared.result.Result.{Result}
+use Rattle.std.specs.declared.result.Result.the-variants.{Ok, Err}
 use Rattle.ratchet.specs.declared.copies.Holding.{Holding}
 use Rattle.ratchet.specs.declared.copies.Holding.the-variants.{Held, Disputed}
 use Rattle.ratchet.specs.Join.{equal}
@@ -10,19 +14,13 @@ use Rattle.store.specs.declared.sighting.Sighting.{Sighting}
 use Rattle.store.specs.declared.sighting.Sighting.the-variants.{Event, Repeated}
 use Rattle.bench_suite.specs.declared.word.Word.{Word}
 use Rattle.bench_suite.specs.Bench.{bench}
-use Rattle.std.specs.declared.option.Option.{Option}
-use Rattle.std.specs.declared.option.Option.the-variants.{Some, None}
 
--- the number that a call answers, or the number of its refusal
-pub data Answer : Type 0 where
-  answers : ℕ → Answer
-  refuses : ℕ → Answer
-
-abbrev pub same-answer : Answer → Answer → Bool
-same-answer (answers a) (answers b) = eqb a b
-same-answer (refuses a) (refuses b) = eqb a b
-same-answer (answers a) (refuses b) = false
-same-answer (refuses a) (answers b) = false
+-- what a call answers, or the number of its refusal
+abbrev pub same-result : {A : Type 0} → (A → A → Bool) → Result A ℕ → Result A ℕ → Bool
+same-result same (Ok a) (Ok b) = same a b
+same-result same (Err x) (Err y) = eqb x y
+same-result same (Ok a) (Err y) = false
+same-result same (Err x) (Ok b) = false
 
 abbrev pub same-bytes : List ℕ → List ℕ → Bool
 same-bytes [] [] = true

@@ -2,14 +2,20 @@
 use Prim.Native.Nat.{ℕ}
 use Rattle.ratchet.specs.declared.copies.AdvanceRefusal.{AdvanceRefusal}
 use Rattle.ratchet.specs.declared.copies.AdvanceRefusal.the-variants.{TargetBelow}
-use Rattle.message.specs.declared.frame.FrameFault.{FrameFault}
-use Rattle.message.specs.declared.frame.FrameFault.the-variants.{Start, Index, Cipher, Length}
+use Rattle.opening.specs.declared.unseal.OpenRefusal.{OpenRefusal}
+use Rattle.opening.specs.declared.unseal.OpenRefusal.the-variants.{Start, Index, Cipher, Length, Absent, Disputed, Early, Tag, Text, TooSmall}
 
 abbrev pub advance-number : AdvanceRefusal → ℕ
 advance-number TargetBelow = 21
 
-abbrev pub frame-number : FrameFault → ℕ
-frame-number Start = 7
-frame-number Index = 8
-frame-number Cipher = 9
-frame-number Length = 10
+abbrev pub open-number : OpenRefusal → ℕ
+open-number Start = 7
+open-number Index = 8
+open-number Cipher = 9
+open-number Length = 10
+open-number Absent = 11
+open-number Disputed = 12
+open-number Early = 13
+open-number Tag = 14
+open-number Text = 15
+open-number TooSmall = 16

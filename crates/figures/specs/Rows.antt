@@ -1,9 +1,10 @@
 -- A worked figure, and its test by the definitions that the contracts name.
 use Prim.Native.Nat.{ℕ}
 use mathlib.Core.Bool.{Bool, _&&_}
-use mathlib.Core.List.{List, []}
+use mathlib.Core.List.{List, [], _∷_}
 use native.Mathlib.Omega.{arith}
 use lib.Dec.{eqb}
+use lib.ListN.{take}
 use Rattle.std.specs.Iters.{folded}
 use Rattle.std.specs.declared.option.Option.{Option}
 use Rattle.std.specs.declared.result.Result.{Result}
@@ -11,6 +12,7 @@ use Rattle.std.specs.declared.result.Result.the-variants.{Ok, Err}
 use Rattle.ratchet.specs.declared.ids.Id.{Id}
 use Rattle.ratchet.specs.declared.copies.SessionCopy.{SessionCopy}
 use Rattle.ratchet.specs.declared.copies.Holding.{Holding}
+use Rattle.ratchet.specs.declared.copies.Holding.the-variants.{Held}
 use Rattle.ratchet.specs.declared.copies.Advanced.{Advanced}
 use Rattle.ratchet.specs.declared.copies.AdvanceRefusal.{AdvanceRefusal}
 use Rattle.ratchet.specs.Advance.{advanced, stepped}
@@ -21,27 +23,27 @@ use Rattle.store.specs.declared.spot.Spot.{Spot}
 use Rattle.store.specs.Keys.{spot-number}
 use Rattle.store.specs.Meaning.{looked, taken}
 use Rattle.store.specs.Sightings.{join-sightings, unraised}
-use Rattle.message.specs.declared.frame.Frame.{Frame}
-use Rattle.message.specs.declared.frame.FrameFault.{FrameFault}
-use Rattle.message.specs.Frame.{framed}
 use Rattle.message.specs.Seal.{sealed}
 use Rattle.message.specs.Varint.{varint, read-varint}
+use Rattle.opening.specs.declared.unseal.Opened.{Opened}
+use Rattle.opening.specs.declared.unseal.OpenRefusal.{OpenRefusal}
+use Rattle.opening.specs.Open.{Unsealed, unsealed, opened, open-output}
 use Rattle.bench_suite.specs.declared.word.Word.{Word}
 use Rattle.bench_suite.specs.Bench.{word, bench}
-use Rattle.figures.specs.Alike.{Answer, answers, refuses, same-answer, same-bytes, same-holding, same-sighting, is-some}
-use Rattle.figures.specs.Numbers.{advance-number, frame-number}
+use Rattle.figures.specs.Alike.{same-result, same-bytes, same-holding, same-sighting, is-some}
+use Rattle.figures.specs.Numbers.{advance-number, open-number}
 
 pub data Row : Type 0 where
-  -- an advance from one index to another, and its hashes
-  advance : ℕ → ℕ → Answer → Row
+  -- an advance from one index to another, and its hashes or its refusal
+  advance : ℕ → ℕ → Result ℕ ℕ → Row
   -- the part R3 that one step from four zero parts makes
   one-step : ℕ → Row
   -- a number and its varint, each from the other
   in-groups : ℕ → List ℕ → Row
   -- a text, and the message that four zero parts seal for it at index 0
   seals : List ℕ → List ℕ → Row
-  -- a message, and its index
-  index-of : List ℕ → Answer → Row
+  -- a message, and the text or the refusal that four zero parts held at index 0 give
+  opens : List ℕ → Result (List ℕ) ℕ → Row
   -- what a store takes in under one id, one after another, and what is then held
   held : List (Holding Word) → Holding Word → Row
   -- the sightings of one message, and what the book then has of it
@@ -62,19 +64,30 @@ abbrev pub shown : {K V : Type 0} → (K → ℕ) → (V → V → V) → (ℕ �
 shown rank join raise k vs =
     looked rank (folded (λ m v. taken rank join raise m k v) (record { entries = []; floor = 0; places = 1 }) vs) k
 
-abbrev pub hashes-of : Result (Advanced Word) AdvanceRefusal → Answer
-hashes-of (Ok there) = answers (there .hashes)
-hashes-of (Err refusal) = refuses (advance-number refusal)
+abbrev pub holdings : List (Holding Word) → Option (Holding Word)
+holdings hs = shown id-number (join bench) (raised bench) id hs
 
-abbrev pub frame-index : Result Frame FrameFault → Answer
-frame-index (Ok frame) = answers (frame .index)
-frame-index (Err fault) = refuses (frame-number fault)
+abbrev pub sightings : List Sighting → Option Sighting
+sightings ss = shown spot-number join-sightings unraised spot ss
+
+abbrev pub hashes-of : Result (Advanced Word) AdvanceRefusal → Result ℕ ℕ
+hashes-of (Ok there) = Ok (there .hashes)
+hashes-of (Err refusal) = Err (advance-number refusal)
+
+-- the text is as much of the output as the answer says
+abbrev pub text-of : Result Opened OpenRefusal → List ℕ → Result (List ℕ) ℕ
+text-of (Ok told) out = Ok (take (told .size) out)
+text-of (Err refusal) out = Err (open-number refusal)
+
+-- an output of four bytes
+abbrev pub opened-text : Result Unsealed OpenRefusal → Result (List ℕ) ℕ
+opened-text u = let out = 0 ∷ 0 ∷ 0 ∷ 0 ∷ [] in text-of (opened u out) (open-output u out)
 
 abbrev pub holds : Row → Bool
-holds (advance from to answer) = same-answer (hashes-of (advanced (bench .hash) (copy from 0) to)) answer
+holds (advance from to answer) = same-result eqb (hashes-of (advanced (bench .hash) (copy from 0) to)) answer
 holds (one-step r3) = is-some (λ c. eqb (c .r3 .value) r3) (stepped (bench .hash) (copy 0 0))
 holds (in-groups n bytes) = same-bytes (varint n) bytes && is-some (λ read. eqb (read .0) n) (read-varint bytes)
 holds (seals text message) = same-bytes (sealed bench (copy 0 0) text) message
-holds (index-of message answer) = same-answer (frame-index (framed bench message)) answer
-holds (held hs h) = is-some (same-holding h) (shown id-number (join bench) (raised bench) id hs)
-holds (sighted ss s) = is-some (same-sighting s) (shown spot-number join-sightings unraised spot ss)
+holds (opens message answer) = same-result same-bytes (opened-text (unsealed bench (holdings (Held (copy 0 0) ∷ [])) message)) answer
+holds (held hs h) = is-some (same-holding h) (holdings hs)
+holds (sighted ss s) = is-some (same-sighting s) (sightings ss)

@@ -2,33 +2,36 @@
 use Prim.Native.Nat.{ℕ, _^_, _-_}
 use mathlib.Core.Path.{_≡_}
 use mathlib.Core.Bool.{Bool, true, _&&_}
-use mathlib.Core.List.{List, [], _∷_, _++_}
+use mathlib.Core.List.{List, [], _∷_}
+use Rattle.std.specs.declared.result.Result.the-variants.{Ok, Err}
 use Rattle.ratchet.specs.declared.copies.Holding.the-variants.{Held, Disputed}
 use Rattle.ratchet.specs.Ratchet.{steps}
 use Rattle.store.specs.declared.sighting.Sighting.the-variants.{Event, Repeated}
 use Rattle.bench_suite.specs.Bench.{bench}
-use Rattle.figures.specs.Alike.{answers, refuses}
-use Rattle.figures.specs.Rows.{Row, advance, one-step, in-groups, seals, index-of, held, sighted, copy, holds}
+use Rattle.figures.specs.Rows.{Row, advance, one-step, in-groups, seals, opens, held, sighted, copy, holds}
 
 -- the text "up"
 abbrev pub up : List ℕ
 up = 0x75 ∷ 0x70 ∷ []
 
-abbrev pub up-message : List ℕ
-up-message = 0x43 ∷ 0x08 ∷ 0x00 ∷ 0x12 ∷ 0x02 ∷ 0x75 ∷ 0x70 ∷ 0x00 ∷ 0x00 ∷ 0x00 ∷ 0x10 ∷ 0xD0 ∷ 0x09 ∷ 0x17 ∷ 0x10 ∷ []
+-- its message, with the last byte given
+abbrev pub up-message : ℕ → List ℕ
+up-message last = 0x43 ∷ 0x08 ∷ 0x00 ∷ 0x12 ∷ 0x02 ∷ 0x75 ∷ 0x70 ∷ 0x00 ∷ 0x00 ∷ 0x00 ∷ 0x10 ∷ 0xD0 ∷ 0x09 ∷ 0x17 ∷ last ∷ []
 
 abbrev pub table : List Row
-table = advance 0 300 (answers 46)
-    ∷ advance 255 256 (answers 2)
-    ∷ advance 65535 65536 (answers 3)
-    ∷ advance 0 (2 ^ 32 - 1) (answers 1026)
-    ∷ advance 0x105 0x202 (answers 4)
-    ∷ advance 7 7 (answers 0)
-    ∷ advance 8 7 (refuses 21)
+table = advance 0 300 (Ok 46)
+    ∷ advance 255 256 (Ok 2)
+    ∷ advance 65535 65536 (Ok 3)
+    ∷ advance 0 (2 ^ 32 - 1) (Ok 1026)
+    ∷ advance 0x105 0x202 (Ok 4)
+    ∷ advance 7 7 (Ok 0)
+    ∷ advance 8 7 (Err 21)
     ∷ one-step 0x9E3779B97F4A7C16
-    ∷ seals up up-message
+    ∷ seals up (up-message 0x10)
+    ∷ opens (up-message 0x10) (Ok up)
+    ∷ opens (up-message 0x11) (Err 14)
     ∷ in-groups 300 (0xAC ∷ 0x02 ∷ [])
-    ∷ index-of (0x43 ∷ 0x08 ∷ 0x80 ∷ 0x00 ∷ []) (refuses 8)
+    ∷ opens (0x43 ∷ 0x08 ∷ 0x80 ∷ 0x00 ∷ []) (Err 8)
     -- an agreeing copy at 0 after one at 5
     ∷ held (Held (steps (bench .hash) 5 (copy 0 0)) ∷ Held (copy 0 0) ∷ []) (Held (copy 0 0))
     -- zero parts and then R3 = 1 at one index, and the zeros once more

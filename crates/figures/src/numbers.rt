@@ -1,7 +1,7 @@
 // The numbers that refusals have in the code are those that the table goes by.
 ghost use mathlib.Core.Path.{_≡_};
-ghost use Rattle.figures.specs.Numbers.{advance-number, frame-number};
-use message::frame::FrameFault;
+ghost use Rattle.figures.specs.Numbers.{advance-number, open-number};
+use opening::unseal::OpenRefusal;
 use ratchet::copies::AdvanceRefusal;
 
 pub fn advance_number(refusal: AdvanceRefusal) -> u8
@@ -10,8 +10,8 @@ pub fn advance_number(refusal: AdvanceRefusal) -> u8
     refusal as u8
 }
 
-pub fn frame_number(fault: FrameFault) -> u8
-    ensures { λ r. ⌜ r ≡ frame-number fault ⌝ }
+pub fn open_number(reason: OpenRefusal) -> u8
+    ensures { λ r. ⌜ r ≡ open-number reason ⌝ }
 {
-    fault as u8
+    reason as u8
 }
