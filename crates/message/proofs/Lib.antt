@@ -1,3 +1,4 @@
 pub mod Frames
 pub mod Seals
+pub mod Senders
 pub mod Varints

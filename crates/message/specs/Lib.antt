@@ -1,3 +1,4 @@
 pub mod Frame
 pub mod Seal
+pub mod Sender
 pub mod Varint
