@@ -1,7 +1,6 @@
 -- Whether two answers are alike.
 use Prim.Native.Nat.{ℕ}
-use mathlib.Core.Bool.{Bool, true, false, _&&_}
-use mathlib.Core.List.{List, [], _∷_}
+use mathlib.Core.Bool.{Bool, true, false}
 use lib.Dec.{eqb}
 use Rattle.std.specs.declared.option.Option.{Option}
 use Rattle.std.specs.declared.option.Option.the-variants.{Some, None}
@@ -21,12 +20,6 @@ same-result same (Ok a) (Ok b) = same a b
 same-result same (Err x) (Err y) = eqb x y
 same-result same (Ok a) (Err y) = false
 same-result same (Err x) (Ok b) = false
-
-abbrev pub same-bytes : List ℕ → List ℕ → Bool
-same-bytes [] [] = true
-same-bytes [] (y ∷ ys) = false
-same-bytes (x ∷ xs) [] = false
-same-bytes (x ∷ xs) (y ∷ ys) = eqb x y && same-bytes xs ys
 
 abbrev pub same-holding : Holding Word → Holding Word → Bool
 same-holding (Held a) (Held b) = equal bench a b

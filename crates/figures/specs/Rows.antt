@@ -6,6 +6,7 @@ use native.Mathlib.Omega.{arith}
 use lib.Dec.{eqb}
 use lib.ListN.{take}
 use Rattle.std.specs.Iters.{folded}
+use Rattle.std.specs.shelf.Text.{sameBytes}
 use Rattle.std.specs.declared.option.Option.{Option}
 use Rattle.std.specs.declared.result.Result.{Result}
 use Rattle.std.specs.declared.result.Result.the-variants.{Ok, Err}
@@ -30,7 +31,7 @@ use Rattle.opening.specs.declared.unseal.OpenRefusal.{OpenRefusal}
 use Rattle.opening.specs.Open.{Unsealed, unsealed, opened, open-output}
 use Rattle.bench_suite.specs.declared.word.Word.{Word}
 use Rattle.bench_suite.specs.Bench.{word, bench}
-use Rattle.figures.specs.Alike.{same-result, same-bytes, same-holding, same-sighting, is-some}
+use Rattle.figures.specs.Alike.{same-result, same-holding, same-sighting, is-some}
 use Rattle.figures.specs.Numbers.{advance-number, open-number}
 
 pub data Row : Type 0 where
@@ -86,8 +87,8 @@ opened-text u = let out = 0 ∷ 0 ∷ 0 ∷ 0 ∷ [] in text-of (opened u out) (
 abbrev pub holds : Row → Bool
 holds (advance from to answer) = same-result eqb (hashes-of (advanced (bench .hash) (copy from 0) to)) answer
 holds (one-step r3) = is-some (λ c. eqb (c .r3 .value) r3) (stepped (bench .hash) (copy 0 0))
-holds (in-groups n bytes) = same-bytes (varint n) bytes && is-some (λ read. eqb (read .0) n) (read-varint bytes)
-holds (seals text message) = same-bytes (sealed bench (copy 0 0) text) message
-holds (opens message answer) = same-result same-bytes (opened-text (unsealed bench (holdings (Held (copy 0 0) ∷ [])) message)) answer
+holds (in-groups n bytes) = sameBytes (varint n) bytes && is-some (λ read. eqb (read .0) n) (read-varint bytes)
+holds (seals text message) = sameBytes (sealed bench (copy 0 0) text) message
+holds (opens message answer) = same-result sameBytes (opened-text (unsealed bench (holdings (Held (copy 0 0) ∷ [])) message)) answer
 holds (held hs h) = is-some (same-holding h) (holdings hs)
 holds (sighted ss s) = is-some (same-sighting s) (sightings ss)
