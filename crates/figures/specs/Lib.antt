@@ -1,0 +1,4 @@
+pub mod Alike
+pub mod Numbers
+pub mod Rows
+pub mod Table

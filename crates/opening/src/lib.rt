@@ -1,0 +1,3 @@
+// Opening messages by what a store shows of a session.
+pub mod open;
+pub mod unseal;
