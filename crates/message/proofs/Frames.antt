@@ -16,7 +16,7 @@ use Rattle.ratchet.specs.Suite.{Meaning}
 use Rattle.message.specs.declared.frame.Frame.{Frame}
 use Rattle.message.specs.declared.frame.FrameFault.the-variants.{Start, Cipher, Length}
 use Rattle.message.specs.Varint.{varint, read-varint}
-use Rattle.message.specs.Frame.{head, message-bytes, keyed, starts, sized, cipher-at, indexed, framed}
+use Rattle.message.specs.Frame.{head, message-bytes, frame-of, keyed, starts, sized, cipher-at, indexed, framed}
 use Rattle.message.proofs.Varints.{varint-fits, varint-least, groups-size, varint-laws}
 
 -- behind the right key the varint is read
@@ -79,7 +79,7 @@ module _ {P : Type 0} (m : Meaning P) (index : ℕ) (cipher tag : List ℕ) wher
   length-head = simp length-append (omega arith)
 
   pub frame-law : index < 2 ^ 32 → m .allowed (length cipher) ≡ true → length cipher ≤ 4112 → length tag ≡ 8
-      → framed m (message-bytes m index cipher tag) ≡ Ok (record { index = index; from = length (head m index (length cipher)); size = length cipher })
+      → framed m (message-bytes m index cipher tag) ≡ Ok (frame-of m index cipher)
   unfolding framed
   frame-law small allowed short eight =
       let n = length cipher in
