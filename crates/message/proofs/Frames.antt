@@ -16,7 +16,7 @@ use Rattle.ratchet.specs.Suite.{Meaning}
 use Rattle.message.specs.declared.frame.Frame.{Frame}
 use Rattle.message.specs.declared.frame.FrameFault.the-variants.{Start, Cipher, Length}
 use Rattle.message.specs.Varint.{varint, read-varint}
-use Rattle.message.specs.Frame.{head, message-bytes, keyed, starts, sized, cipher-at, indexed, framed}
+use Rattle.message.specs.Frame.{head, message-bytes, frame-of, keyed, starts, sized, cipher-at, indexed, framed}
 use Rattle.message.proofs.Varints.{varint-fits, varint-least, groups-size, varint-laws}
 
 -- behind the right key the varint is read
@@ -79,7 +79,7 @@ module _ {P : Type 0} (m : Meaning P) (index : ℕ) (cipher tag : List ℕ) wher
   length-head = simp length-append (omega arith)
 
   pub frame-law : index < 2 ^ 32 → m .allowed (length cipher) ≡ true → length cipher ≤ 4112 → length tag ≡ 8
-      → framed m (message-bytes m index cipher tag) ≡ Ok (record { index = index; from = length (head m index (length cipher)); size = length cipher })
+      → framed m (message-bytes m index cipher tag) ≡ Ok (frame-of m index cipher)
   unfolding framed
   frame-law small allowed short eight =
       let n = length cipher in
@@ -121,8 +121,8 @@ module _ {P : Type 0} (m : Meaning P) (bs : List ℕ) (f : Frame) where
         | inr h ↦ (let g = e ∙ cond-false _ (cond (m .allowed n) (Ok (record { index = index; from = at + 1 + k; size = n })) (Err Length)) (Err Cipher) (ne-eqb _ _ h) in
             let z : _≡_ {A = ℕ} 0 1 = cc in absurd (omega arith))
       ] where
-    at-most : (n at k total : ℕ) → total ≡ at + 1 + k + n + 8 → 3 ≤ at → total ≤ 4130 → 1 ≤ k → (128 ≤ n → 2 ≤ k) → n ≤ 4116
-    at-most n at k total e low short one two = elim (cases-lt n 128) [ inl h ↦ omega arith | inr h ↦ (let t = two h in omega arith) ]
+        at-most : (n at k total : ℕ) → total ≡ at + 1 + k + n + 8 → 3 ≤ at → total ≤ 4130 → 1 ≤ k → (128 ≤ n → 2 ≤ k) → n ≤ 4116
+        at-most n at k total e low short one two = elim (cases-lt n 128) [ inl h ↦ omega arith | inr h ↦ (let t = two h in omega arith) ]
 
   index-sound : (o : Option (ℕ × ℕ)) → keyed 8 (drop 1 bs) ≡ o → length bs ≤ 4130 → Ok f ≡ indexed m bs o → Sound m bs f
   index-sound None is short e = let z : _≡_ {A = ℕ} 0 1 = cc in absurd (omega arith)

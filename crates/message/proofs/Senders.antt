@@ -34,8 +34,8 @@ module _ {P : Type 0} (m : Meaning P) where
         | inl t ↦ (let f = e ∙ cond-true _ _ _ t in let g : c ≡ copy-of m 0 0 bs = cc in ap (λ x. x .index) g ∙ origin bs)
         | inr t ↦ (let f = e ∙ cond-false _ (Ok (copy-of m 0 0 bs)) (Err Length) t in let z : _≡_ {A = ℕ} 0 1 = cc in absurd (omega arith))
       ] where
-    origin : (bs : List ℕ) → copy-of m 0 0 bs .index ≡ 0
-    origin bs = refl
+        origin : (bs : List ℕ) → copy-of m 0 0 bs .index ≡ 0
+        origin bs = refl
 
   pub new-kept : (id : Id) (bs : List ℕ) (c : SessionCopy P) → Ok c ≡ read-start m bs → Kept m (record { id = id; start = c; current = c; spent = false })
   new-kept id bs c e = record {

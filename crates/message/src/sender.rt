@@ -108,7 +108,7 @@ impl<P: Suite> Sender<P> {
         ensures value { λ r. ⌜ r ≡ share-answer suite (now (self .entry)) index (now (out .entry)) ⌝ }
         ensures output { λ _. ⌜ now (out .exit) ≡ share-output suite (now (self .entry)) index (now (out .entry)) ⌝ }
     {
-        if index > self.current.index {
+        if index > self.index() {
             return Err(ShareRefusal::Ahead);
         }
         let copy = copy_at(self.start, index);

@@ -25,7 +25,12 @@ pub impl From<SpaceRefusal> for OpenRefusal as OpenRefusalFromSpace {
 }
 
 // Opens a message by the copy that a store shows of its session, and writes the text.
-pub fn open<P: Suite, S: Store<Id, Holding<P>>>(store: &S, id: Id, message: &[u8], out: &mut [u8]) -> Result<Opened, OpenRefusal>
+pub fn open<P: Suite, S: Store<Id, Holding<P>>>(
+    store: &S,
+    id: Id,
+    message: &[u8],
+    out: &mut [u8],
+) -> Result<Opened, OpenRefusal>
     ensures value { λ r. ⌜ r ≡ opened (unsealed suite (looked id-number (S·Store .means (now (store .entry))) id) (now (message .entry))) (now (out .entry)) ⌝ }
     ensures after { λ _. ⌜ now (out .exit) ≡ open-output (unsealed suite (looked id-number (S·Store .means (now (store .entry))) id) (now (message .entry))) (now (out .entry)) ⌝ }
 {

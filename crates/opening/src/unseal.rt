@@ -70,7 +70,12 @@ fn same_bytes(a: &[u8], b: &[u8]) -> bool
 }
 
 // Checks the tag, and then deciphers into a scratch.
-fn check<P: Suite>(message: &[u8], frame: Frame, there: &Advanced<P>, scratch: &mut [u8]) -> Result<Opened, OpenRefusal>
+fn check<P: Suite>(
+    message: &[u8],
+    frame: Frame,
+    there: &Advanced<P>,
+    scratch: &mut [u8],
+) -> Result<Opened, OpenRefusal>
     requires whole { ⌜ length (now message) ≡ frame .from + frame .size + 8 ⌝ }
     requires allowed { ⌜ suite .allowed (frame .size) ≡ true ⌝ }
     requires short { ⌜ frame .size ≤ 4116 ⌝ }
@@ -96,7 +101,11 @@ fn check<P: Suite>(message: &[u8], frame: Frame, there: &Advanced<P>, scratch: &
 }
 
 // Opens a message by what is shown of its session, into a scratch.
-pub fn unseal<P: Suite>(shown: Option<Holding<P>>, message: &[u8], scratch: &mut [u8; 4111]) -> Result<Opened, OpenRefusal>
+pub fn unseal<P: Suite>(
+    shown: Option<Holding<P>>,
+    message: &[u8],
+    scratch: &mut [u8; 4111],
+) -> Result<Opened, OpenRefusal>
     ensures value { λ r. ⌜ r ≡ told (unsealed suite shown (now (message .entry))) ⌝ }
     ensures after { λ _. ⌜ now (scratch .exit) ≡ text-over (unsealed suite shown (now (message .entry))) (now (scratch .entry)) ⌝ }
     ensures fits { λ r. ⌜ made r (λ o. o .size ≤ 4111) ⌝ }
