@@ -11,7 +11,7 @@ use Rattle.std.specs.declared.option.Option.the-variants.{Some, None}
 use Rattle.std.specs.Options.{mapped}
 use Rattle.std.proofs.shelf.Lists.{drop-more, drop-all}
 use Rattle.std.proofs.shelf.Tests.{cases-bool}
-use Rattle.tables.specs.Slots.{place}
+use Rattle.tables.specs.Search.{place}
 
 -- what is left of a list, with the element that was read in front
 pub step : {A : Type 0} (xs : List A) (i : ℕ) (x y : A) → i < length xs → x ≡ getD xs i x → x ≡ y → drop i xs ≡ y ∷ drop (i + 1) xs

@@ -20,7 +20,8 @@ use Rattle.tables.specs.declared.slots.Slot.the-variants.{Free, Held}
 use Rattle.store.specs.Laws.{Value-laws}
 use Rattle.store.specs.Maps.{Rising, found, put}
 use Rattle.store.specs.Meaning.{answer, room, taken}
-use Rattle.tables.specs.Slots.{place, is-free, has-key, free-slots, held, slots-mean}
+use Rattle.tables.specs.Search.{place}
+use Rattle.tables.specs.Slots.{is-free, has-key, free-slots, held, slots-mean}
 use Rattle.tables.proofs.Places.{hit, swapped, place-at, place-none}
 use Rattle.tables.proofs.Rows.{held-rising, held-none, found-none, found-hit, free-none, free-filled, free-kept, of-both}
 
