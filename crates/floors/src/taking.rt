@@ -15,7 +15,10 @@ use store::meaning::Store;
 use store::values::HoldingValue;
 
 // Takes the copy that some bytes are, with either version byte, under its id.
-pub fn take_bytes<P: Suite, S: Store<Id, Holding<P>>>(store: &mut S, bytes: &[u8]) -> Result<(), TakeRefusal>
+pub fn take_bytes<P: Suite, S: Store<Id, Holding<P>>>(
+    store: &mut S,
+    bytes: &[u8],
+) -> Result<(), TakeRefusal>
     ensures answer { λ r. ⌜ r ≡ bytes-answer suite (means (now (store .entry))) (now (bytes .entry)) ⌝ }
     ensures after { λ _. ⌜ means (now (store .exit)) ≡ bytes-taken suite (means (now (store .entry))) (now (bytes .entry)) ⌝ }
     ensures steady { λ _. ⌜ steady (now (store .entry)) (now (store .exit)) ⌝ }
