@@ -1,4 +1,4 @@
--- Bytes written at a place of an output.
+-- Bytes written at a place of an output, for the contracts of the private functions that write piece by piece.
 use Prim.Native.Nat.{ℕ, _+_, _≤_}
 use mathlib.Core.Path.{_≡_}
 use mathlib.Core.List.{List, _++_}
