@@ -21,7 +21,7 @@ use Rattle.copy_bytes.specs.Output.{answered, filled}
 use Rattle.message.specs.declared.sender.Sender.{Sender}
 use Rattle.message.specs.Seal.{sealed}
 use Rattle.message.proofs.Seals.{answered-fits}
-use Rattle.message.specs.Sender.{Kept, Share-law, seal-size, seal-answer, seal-output, moved, after-seal}
+use Rattle.message.specs.Sender.{Kept, seal-size, seal-answer, seal-output, moved, after-seal}
 
 module _ {P : Type 0} (m : Meaning P) where
   start-index : (bs : List ℕ) (c : SessionCopy P) → Ok c ≡ read-start m bs → c .index ≡ 0
@@ -72,6 +72,3 @@ module _ {P : Type 0} (m : Meaning P) where
         ap (moved s) n ∙ sym (cond-true _ _ _ all),
         next-kept s next n unspent,
       )
-
-  pub share-law : Share-law m
-  share-law s index k = let o = k .origin in let e : index - s .start .index ≡ index = omega arith in ap (λ (n : ℕ). steps (m .hash) n (s .start)) e

@@ -65,10 +65,6 @@ module _ {P : Type 0} where
       pub by-steps : s .current ≡ steps (m .hash) (s .current .index) (s .start)
       pub last : s .spent ≡ true → s .current .index ≡ 2 ^ 32 - 1
 
-    -- what such a sender shares at an index is its start after so many single steps
-    abbrev pub Share-law : Type 0
-    Share-law = (s : Sender P) (index : ℕ) → Kept s → reached s index ≡ steps (m .hash) index (s .start)
-
     -- four parts make a sender at index 0
     abbrev pub new-sender : Id → List ℕ → Result (Sender P) CopyFault
     new-sender id bs = from-start id (read-start m bs)
