@@ -1,0 +1,36 @@
+-- How numbers and bytes are written in a script.
+use Prim.Native.Nat.{ℕ, _+_, _-_, _*_, _/_, _%_}
+use mathlib.Core.Bool.{Bool, true, false, cond, not, _&&_}
+use mathlib.Core.List.{List, [], _∷_}
+use lib.Dec.{eqb, leb, ltb}
+use Rattle.std.specs.declared.option.Option.{Option}
+use Rattle.std.specs.declared.option.Option.the-variants.{Some, None}
+
+-- the value of a decimal digit
+abbrev pub digit : ℕ → Option ℕ
+digit c = cond (leb 48 c && leb c 57) (Some (c - 48)) None
+
+-- the number of more digits behind the number v
+abbrev pub extended : ℕ → Option ℕ → Option ℕ
+extended v (Some d) = Some (v * 10 + d)
+extended v None = None
+
+-- the number that digits write; none where a character is no digit
+abbrev pub digits : Option ℕ → List ℕ → Option ℕ
+digits None cs = None
+digits (Some v) [] = Some v
+digits (Some v) (c ∷ cs) = digits (extended v (digit c)) cs
+
+-- a number is written with a digit at least, and begins with 0 only if that is all
+abbrev pub plain : List ℕ → Bool
+plain [] = false
+plain (c ∷ []) = true
+plain (c ∷ (d ∷ cs)) = not (eqb c 48)
+
+abbrev pub at-most : ℕ → Option ℕ → Option ℕ
+at-most most None = None
+at-most most (Some n) = cond (leb n most) (Some n) None
+
+-- the number in a word, if it is one and not above the limit
+abbrev pub numeral : ℕ → List ℕ → Option ℕ
+numeral most w = cond (plain w) (at-most most (digits (Some 0) w)) None

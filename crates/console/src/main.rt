@@ -1,0 +1,6 @@
+// Reads a script of calls, and prints every answer.
+mod words;
+
+fn main() {
+    let _n = words::number(b"12", 20);
+}
