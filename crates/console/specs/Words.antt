@@ -34,3 +34,38 @@ at-most most (Some n) = cond (leb n most) (Some n) None
 -- the number in a word, if it is one and not above the limit
 abbrev pub numeral : ℕ → List ℕ → Option ℕ
 numeral most w = cond (plain w) (at-most most (digits (Some 0) w)) None
+
+-- the value of a hex digit, in lower case
+abbrev pub nibble : ℕ → Option ℕ
+nibble c = cond (leb 48 c && leb c 57) (Some (c - 48)) (cond (leb 97 c && leb c 102) (Some (c - 87)) None)
+
+-- two hex digits are a byte
+abbrev pub paired : Option ℕ → Option ℕ → Option ℕ
+paired (Some high) (Some low) = Some (high * 16 + low)
+paired (Some high) None = None
+paired None low = None
+
+abbrev pub before : Option ℕ → Option (List ℕ) → Option (List ℕ)
+before (Some b) (Some bs) = Some (b ∷ bs)
+before (Some b) None = None
+before None bs = None
+
+-- the bytes that pairs of hex digits are
+abbrev pub pairs : List ℕ → Option (List ℕ)
+pairs [] = Some []
+pairs (high ∷ []) = None
+pairs (high ∷ (low ∷ cs)) = before (paired (nibble high) (nibble low)) (pairs cs)
+
+-- the bytes that a word is: `-` for none, else one pair at least
+unfoldable pub bytes-of : List ℕ → Option (List ℕ)
+bytes-of [] = None
+bytes-of (c ∷ []) = cond (eqb c 45) (Some []) None
+bytes-of (c ∷ (d ∷ cs)) = pairs (c ∷ (d ∷ cs))
+
+-- bytes in hex, two digits each
+abbrev pub hex-digit : ℕ → ℕ
+hex-digit n = cond (ltb n 10) (n + 48) (n + 87)
+
+abbrev pub hex : List ℕ → List ℕ
+hex [] = []
+hex (b ∷ bs) = hex-digit (b / 16) ∷ (hex-digit (b % 16) ∷ hex bs)

@@ -1,7 +1,29 @@
 // The words of a line: what they are, and the numbers and bytes that they write.
 ghost use mathlib.Core.Path.{_≡_};
+ghost use Rattle.std.specs.Of.Vec.{vec-items};
+ghost use Rattle.std.specs.Results.{Cases};
+ghost use Rattle.std.specs.declared.option.Option.the-variants.{Some, None};
+ghost use Rattle.console.specs.declared.words.LineFault.the-variants.{BadLine, NoMemory};
 ghost use Rattle.console.specs.Words.{digit, digits, extended, at-most, plain, numeral};
-ghost use Rattle.std.specs.declared.option.Option.the-variants.{Some};
+ghost use Rattle.console.specs.Words.{nibble, paired, pairs, bytes-of};
+use std::alloc::AllocError;
+use std::alloc::Global;
+use std::alloc::Refused;
+
+// Why a line is not read.
+#[derive(Clone, Copy)]
+pub(crate) enum LineFault {
+    BadLine,
+    NoMemory,
+}
+
+pub(crate) impl From<AllocError> for LineFault as LineFaultFromAlloc {
+    ghost converts = { λ _ f. f ≡ NoMemory };
+
+    fn from(_e: AllocError) -> LineFault {
+        LineFault::NoMemory
+    }
+}
 
 fn is_plain(word: &[u8]) -> bool
     ensures { λ r. ⌜ r ≡ plain (now (word .entry)) ⌝ }
@@ -48,5 +70,45 @@ pub(crate) fn number(word: &[u8], limit: u64) -> Option<u64>
         read_digits(word, limit)
     } else {
         None
+    }
+}
+
+fn nibble_of(c: u8) -> Option<u8>
+    ensures { λ r. ⌜ r ≡ nibble c ⌝ }
+{
+    match c {
+        b'0'..=b'9' => Some(c - b'0'),
+        b'a'..=b'f' => Some(c - b'a' + 10),
+        _ => None,
+    }
+}
+
+fn byte_of(high: u8, low: u8) -> Option<u8>
+    ensures { λ r. ⌜ r ≡ paired (nibble high) (nibble low) ⌝ }
+{
+    match (nibble_of(high), nibble_of(low)) {
+        (Some(h), Some(l)) => Some(h * 16 + l),
+        _ => None,
+    }
+}
+
+fn read_pairs(heap: Global, word: &[u8]) -> Result<Vec<u8>, LineFault>
+    ensures { λ r. ⌜ Cases r (λ v. pairs (now (word .entry)) ≡ Some (vec-items v)) (λ e. (e ≡ BadLine → pairs (now (word .entry)) ≡ None)) ⌝ }
+{
+    let mut read = Vec::new(heap);
+    let mut rest = word;
+    while rest.len() >= 2 {
+        let Some(b) = byte_of(rest[0], rest[1]) else {
+            return Err(LineFault::BadLine);
+        };
+        if read.push(b).is_err() {
+            return Err(LineFault::NoMemory);
+        }
+        rest = &rest[2..];
+    }
+    if rest.is_empty() {
+        Ok(read)
+    } else {
+        Err(LineFault::BadLine)
     }
 }
