@@ -3,8 +3,19 @@ use Prim.Native.Nat.{ℕ, _+_, _-_, _*_, _/_, _%_}
 use mathlib.Core.Bool.{Bool, true, false, cond, not, _&&_}
 use mathlib.Core.List.{List, [], _∷_}
 use lib.Dec.{eqb, leb, ltb}
+use lib.ListN.{length}
 use Rattle.std.specs.declared.option.Option.{Option}
 use Rattle.std.specs.declared.option.Option.the-variants.{Some, None}
+
+-- what stands before the first separator, or all
+abbrev pub upto : ℕ → List ℕ → List ℕ
+upto s [] = []
+upto s (c ∷ cs) = cond (eqb c s) [] (c ∷ upto s cs)
+
+-- what stands behind the first separator, if there is one
+abbrev pub behind : ℕ → List ℕ → Option (List ℕ)
+behind s [] = None
+behind s (c ∷ cs) = cond (eqb c s) (Some cs) (behind s cs)
 
 -- the value of a decimal digit
 abbrev pub digit : ℕ → Option ℕ
@@ -56,11 +67,14 @@ pairs [] = Some []
 pairs (high ∷ []) = None
 pairs (high ∷ (low ∷ cs)) = before (paired (nibble high) (nibble low)) (pairs cs)
 
+abbrev pub dash : List ℕ → Bool
+dash [] = false
+dash (c ∷ []) = eqb c 45
+dash (c ∷ (d ∷ cs)) = false
+
 -- the bytes that a word is: `-` for none, else one pair at least
-unfoldable pub bytes-of : List ℕ → Option (List ℕ)
-bytes-of [] = None
-bytes-of (c ∷ []) = cond (eqb c 45) (Some []) None
-bytes-of (c ∷ (d ∷ cs)) = pairs (c ∷ (d ∷ cs))
+abbrev pub bytes-of : List ℕ → Option (List ℕ)
+bytes-of w = cond (dash w) (Some []) (cond (eqb (length w) 0) None (pairs w))
 
 -- bytes in hex, two digits each
 abbrev pub hex-digit : ℕ → ℕ

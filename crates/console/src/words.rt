@@ -1,11 +1,15 @@
 // The words of a line: what they are, and the numbers and bytes that they write.
 ghost use mathlib.Core.Path.{_≡_};
+ghost use Prim.Native.Nat.{ℕ, _<_, _≤_};
+ghost use lib.ListN.{length, getD};
+ghost use Rattle.std.specs.Options.{mapped};
 ghost use Rattle.std.specs.Of.Vec.{vec-items};
 ghost use Rattle.std.specs.Results.{Cases};
 ghost use Rattle.std.specs.declared.option.Option.the-variants.{Some, None};
 ghost use Rattle.console.specs.declared.words.LineFault.the-variants.{BadLine, NoMemory};
+ghost use Rattle.console.specs.Words.{upto, behind};
 ghost use Rattle.console.specs.Words.{digit, digits, extended, at-most, plain, numeral};
-ghost use Rattle.console.specs.Words.{nibble, paired, pairs, bytes-of};
+ghost use Rattle.console.specs.Words.{nibble, paired, pairs, dash, bytes-of};
 use std::alloc::AllocError;
 use std::alloc::Global;
 use std::alloc::Refused;
@@ -22,6 +26,41 @@ pub(crate) impl From<AllocError> for LineFault as LineFaultFromAlloc {
 
     fn from(_e: AllocError) -> LineFault {
         LineFault::NoMemory
+    }
+}
+
+// Bytes cut at their first separator: what stands before it, and what behind, if there is one.
+#[derive(Clone, Copy)]
+pub(crate) struct Cut<'a> {
+    pub(crate) front: &'a [u8],
+    pub(crate) back: Option<&'a [u8]>,
+}
+
+// Where the first separator stands, or the length if there is none.
+fn find(bytes: &[u8], separator: u8) -> usize
+    ensures within { λ r. ⌜ r ≤ length (now (bytes .entry)) ⌝ }
+    ensures before { λ r. ⌜ ((k : ℕ) → k < r → getD (now (bytes .entry)) k 0 ≡ separator → ⊥) ⌝ }
+    ensures found { λ r. ⌜ (r < length (now (bytes .entry)) → getD (now (bytes .entry)) r 0 ≡ separator) ⌝ }
+{
+    for (i, b) in bytes.iter().enumerate() {
+        if *b == separator {
+            return i;
+        }
+    }
+    bytes.len()
+}
+
+pub(crate) fn cut_at_first(bytes: &[u8], separator: u8) -> Cut<'_>
+    ensures front { λ r. ⌜ now (r .front) ≡ upto separator (now (bytes .entry)) ⌝ }
+    ensures back { λ r. ⌜ mapped now (r .back) ≡ behind separator (now (bytes .entry)) ⌝ }
+{
+    let n = find(bytes, separator);
+    let front = &bytes[0..n];
+    if n < bytes.len() {
+        let back = Some(&bytes[n + 1..]);
+        Cut { front, back }
+    } else {
+        Cut { front, back: None }
     }
 }
 
@@ -111,4 +150,26 @@ fn read_pairs(heap: Global, word: &[u8]) -> Result<Vec<u8>, LineFault>
     } else {
         Err(LineFault::BadLine)
     }
+}
+
+fn is_dash(word: &[u8]) -> bool
+    ensures { λ r. ⌜ r ≡ dash (now (word .entry)) ⌝ }
+{
+    match word {
+        [c] => *c == b'-',
+        _ => false,
+    }
+}
+
+// The bytes that a word is, `-` for none.
+pub(crate) fn read_bytes(heap: Global, word: &[u8]) -> Result<Vec<u8>, LineFault>
+    ensures { λ r. ⌜ Cases r (λ v. bytes-of (now (word .entry)) ≡ Some (vec-items v)) (λ e. (e ≡ BadLine → bytes-of (now (word .entry)) ≡ None)) ⌝ }
+{
+    if is_dash(word) {
+        return Ok(Vec::new(heap));
+    }
+    if word.is_empty() {
+        return Err(LineFault::BadLine);
+    }
+    read_pairs(heap, word)
 }
