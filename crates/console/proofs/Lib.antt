@@ -1,3 +1,4 @@
+pub mod Added
 pub mod Cuts
 pub mod Hex
 pub mod Numbers

@@ -83,3 +83,7 @@ hex-digit n = cond (ltb n 10) (n + 48) (n + 87)
 abbrev pub hex : List ℕ → List ℕ
 hex [] = []
 hex (b ∷ bs) = hex-digit (b / 16) ∷ (hex-digit (b % 16) ∷ hex bs)
+
+-- bytes as a word: `-` for none
+abbrev pub hex-word : List ℕ → List ℕ
+hex-word bs = cond (eqb (length bs) 0) (45 ∷ []) (hex bs)

@@ -1,4 +1,5 @@
 // Reads a script of calls, and prints every answer.
+mod answers;
 mod script;
 mod words;
 
