@@ -1,0 +1,84 @@
+-- Ids with the same words are one, and their bytes go there and back.
+use Prim.Native.Nat.{ℕ, _+_, _*_, _-_, _/_, _%_, _^_, _<_, _≤_}
+use mathlib.Core.Path.{_≡_, PathP, refl, sym, ap, _∙_}
+use mathlib.Core.HLevel.{isProp→PathP}
+use mathlib.Core.List.{List, [], _∷_, _++_}
+use native.Mathlib.Bridge.{le-prop}
+use native.Mathlib.Nat.{mod-eq-of-lt}
+use native.Mathlib.Omega.{arith}
+use lib.Arith.{digits-div, digits-mod}
+use lib.ListN.{length, getD, take, drop, length-append, length-take, length-drop, take-append-drop}
+use lib.Seq.{drop-drop, take-all, getD-drop}
+use Rattle.std.specs.shelf.Digits.{number, Under}
+use Rattle.std.specs.shelf.Lists.{All}
+use Rattle.std.proofs.shelf.Elements.{all-take, all-drop, all-append}
+use Rattle.std.proofs.shelf.Digits.{number-lt, number-more}
+use Rattle.ratchet.specs.declared.ids.Id.{Id}
+use Rattle.ratchet.specs.Bytes.{Byte, be}
+use Rattle.ratchet.specs.Ids.{id-number, id-bytes, id-of, word}
+use Rattle.ratchet.proofs.Bytes.{length-be, under-be, number-be, be-number}
+
+pub length-id : (k : Id) → length (id-bytes k) ≡ 32
+unfolding id-bytes
+length-id k = refl
+
+pub bytes-id : (k : Id) → All Byte (id-bytes k)
+unfolding id-bytes
+bytes-id k =
+    let low = be 8 (k .w2) ++ be 8 (k .w3) in
+    let lows = all-append Byte (be 8 (k .w2)) (be 8 (k .w3)) (under-be 8 (k .w2)) (under-be 8 (k .w3)) in
+    all-append Byte (be 8 (k .w0)) (be 8 (k .w1) ++ low) (under-be 8 (k .w0)) (all-append Byte (be 8 (k .w1)) low (under-be 8 (k .w1)) lows)
+
+below : {x y : ℕ} (e : x ≡ y) (p : x < 2 ^ 64) (q : y < 2 ^ 64) → PathP (λ i. e i < 2 ^ 64) p q
+below e p q = isProp→PathP (λ i. e i < 2 ^ 64) (λ i. le-prop) p q
+
+pub id-path : (a b : Id) → a .w0 ≡ b .w0 → a .w1 ≡ b .w1 → a .w2 ≡ b .w2 → a .w3 ≡ b .w3 → a ≡ b
+id-path a b e0 e1 e2 e3 =
+    λ i. record {
+      w0 = e0 i;
+      w1 = e1 i;
+      w2 = e2 i;
+      w3 = e3 i;
+      fits0 = below e0 (a .fits0) (b .fits0) i;
+      fits1 = below e1 (a .fits1) (b .fits1) i;
+      fits2 = below e2 (a .fits2) (b .fits2) i;
+      fits3 = below e3 (a .fits3) (b .fits3) i;
+    }
+
+word-back : (v : ℕ) → v < 2 ^ 64 → number 256 (be 8 v) % 2 ^ 64 ≡ v
+word-back v h = ap (λ n. n % 2 ^ 64) (number-be 8 v ∙ mod-eq-of-lt h) ∙ mod-eq-of-lt h
+
+pub id-back : (k : Id) → id-of (id-bytes k) ≡ k
+unfolding id-of id-bytes
+id-back k = id-path (id-of (id-bytes k)) k (word-back (k .w0) (k .fits0)) (word-back (k .w1) (k .fits1)) (word-back (k .w2) (k .fits2)) (word-back (k .w3) (k .fits3))
+
+module _ (bs : List ℕ) (long : length bs ≡ 32) (bytes : All Byte bs) where
+  word-forth : (i : ℕ) → i + 8 ≤ 32 → be 8 (word (drop i bs)) ≡ take 8 (drop i bs)
+  word-forth i h =
+      let xs = take 8 (drop i bs) in
+      let l : length xs ≡ 8 = simp (length-take, length-drop) (omega arith) in
+      let u : Under 256 xs = all-take Byte 8 (drop i bs) (all-drop Byte i bs bytes) in
+      ap (be 8) (mod-eq-of-lt (rw l at (number-lt 256 xs u))) ∙ be-number 8 xs l u
+
+  cut : (i : ℕ) {ys : List ℕ} → drop (i + 8) bs ≡ ys → drop i bs ≡ take 8 (drop i bs) ++ ys
+  cut i e = sym (take-append-drop 8 (drop i bs)) ∙ ap (λ ys. take 8 (drop i bs) ++ ys) (drop-drop 8 i bs ∙ e)
+
+  last : drop 24 bs ≡ take 8 (drop 24 bs)
+  last = sym (take-all 8 (drop 24 bs) (simp length-drop (omega arith)))
+
+  pub id-forth : id-bytes (id-of bs) ≡ bs
+  unfolding id-of id-bytes
+  id-forth =
+      (λ i. word-forth 0 (omega arith) i ++ (word-forth 8 (omega arith) i ++ (word-forth 16 (omega arith) i ++ word-forth 24 (omega arith) i)))
+      ∙ sym (cut 0 (cut 8 (cut 16 last)))
+
+-- the last word of a number, and what stands before it
+split : (a b x y : ℕ) → x < 2 ^ 64 → y < 2 ^ 64 → a * 2 ^ 64 + x ≡ b * 2 ^ 64 + y → (a ≡ b) × (x ≡ y)
+split a b x y p q e = (sym (digits-div a p) ∙ ap (λ n. n / 2 ^ 64) e ∙ digits-div b q, sym (digits-mod a p) ∙ ap (λ n. n % 2 ^ 64) e ∙ digits-mod b q)
+
+pub id-one : (k l : Id) → id-number k ≡ id-number l → k ≡ l
+id-one k l e =
+    let s3 = split _ _ (k .w3) (l .w3) (k .fits3) (l .fits3) e in
+    let s2 = split _ _ (k .w2) (l .w2) (k .fits2) (l .fits2) (s3 .0) in
+    let s1 = split (k .w0) (l .w0) (k .w1) (l .w1) (k .fits1) (l .fits1) (s2 .0) in
+    id-path k l (s1 .0) (s1 .1) (s2 .1) (s3 .1)

@@ -1,0 +1,3 @@
+pub mod CopyBytes
+pub mod Output
+pub mod Placed

@@ -1,0 +1,3 @@
+// Messages of a session: how one is laid out, sealed and opened, written once for every suite.
+pub mod frame;
+pub mod varint;
