@@ -4,7 +4,7 @@ use mathlib.Core.Path.{_≡_, PathP, refl, sym, ap, _∙_}
 use mathlib.Core.HLevel.{isProp→PathP}
 use mathlib.Core.List.{List, [], _∷_, _++_}
 use native.Mathlib.Bridge.{le-prop}
-use native.Mathlib.Nat.{mod-eq-of-lt}
+use native.Mathlib.Nat.{mod-eq-of-lt, add-zero}
 use native.Mathlib.Omega.{arith}
 use lib.Arith.{digits-div, digits-mod}
 use lib.ListN.{length, getD, take, drop, length-append, length-take, length-drop, take-append-drop}
@@ -82,3 +82,28 @@ id-one k l e =
     let s2 = split _ _ (k .w2) (l .w2) (k .fits2) (l .fits2) (s3 .0) in
     let s1 = split (k .w0) (l .w0) (k .w1) (l .w1) (k .fits1) (l .fits1) (s2 .0) in
     id-path k l (s1 .0) (s1 .1) (s2 .1) (s3 .1)
+
+-- the bytes of a number, one by one
+pub four : (xs : List ℕ) → 4 ≤ length xs → number 256 (take 4 xs) ≡ getD xs 0 0 * 16777216 + getD xs 1 0 * 65536 + getD xs 2 0 * 256 + getD xs 3 0
+four xs h =
+    omega (arith, number-more 256 xs 0 (omega arith), number-more 256 xs 1 (omega arith), number-more 256 xs 2 (omega arith), number-more 256 xs 3 (omega arith))
+
+pub eight : (xs : List ℕ) → 8 ≤ length xs
+    → number 256 (take 8 xs) ≡ getD xs 0 0 * 72057594037927936 + getD xs 1 0 * 281474976710656 + getD xs 2 0 * 1099511627776 + getD xs 3 0 * 4294967296
+        + getD xs 4 0 * 16777216 + getD xs 5 0 * 65536 + getD xs 6 0 * 256 + getD xs 7 0
+eight xs h =
+    let front = four xs (omega arith) in
+    omega (arith, number-more 256 xs 4 (omega arith), number-more 256 xs 5 (omega arith), number-more 256 xs 6 (omega arith), number-more 256 xs 7 (omega arith))
+
+-- a word at a place, as the code reads it
+pub word-read : (bs : List ℕ) (i r : ℕ) → i + 8 ≤ length bs → r < 2 ^ 64
+    → r ≡ getD bs i 0 * 72057594037927936 + getD bs (i + 1) 0 * 281474976710656 + getD bs (i + 2) 0 * 1099511627776 + getD bs (i + 3) 0 * 4294967296
+        + getD bs (i + 4) 0 * 16777216 + getD bs (i + 5) 0 * 65536 + getD bs (i + 6) 0 * 256 + getD bs (i + 7) 0
+    → r ≡ word (drop i bs)
+word-read bs i r h fits is =
+    let xs = drop i bs in
+    let l : 8 ≤ length xs = simp length-drop (omega arith) in
+    let z : getD xs 0 0 ≡ getD bs i 0 = getD-drop i bs 0 0 ∙ ap (λ n. getD bs n 0) (add-zero i) in
+    let same : number 256 (take 8 xs) ≡ r =
+    omega (arith, eight xs l, getD-drop i bs 1 0, getD-drop i bs 2 0, getD-drop i bs 3 0, getD-drop i bs 4 0, getD-drop i bs 5 0, getD-drop i bs 6 0, getD-drop i bs 7 0) in
+    sym (ap (λ n. n % 2 ^ 64) same ∙ mod-eq-of-lt fits)

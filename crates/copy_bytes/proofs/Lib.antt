@@ -1,3 +1,4 @@
 pub mod CopyBytes
 pub mod Ids
 pub mod Places
+pub mod RoundTrips

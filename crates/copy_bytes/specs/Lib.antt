@@ -1,3 +1,4 @@
 pub mod CopyBytes
+pub mod Laws
 pub mod Output
 pub mod Placed
