@@ -1,5 +1,6 @@
 // Reads a script of calls, and prints every answer.
 mod answers;
+mod commands;
 mod script;
 mod words;
 
