@@ -1,0 +1,2 @@
+pub mod Raising
+pub mod Walking

@@ -1,0 +1,5 @@
+pub mod Joining
+pub mod Lookups
+pub mod Places
+pub mod Rows
+pub mod Takes

@@ -1,0 +1,7 @@
+pub mod Keys
+pub mod Lasting
+pub mod Laws
+pub mod Maps
+pub mod Meaning
+pub mod Sightings
+pub mod Slots

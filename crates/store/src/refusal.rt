@@ -1,0 +1,5 @@
+// Why a store refuses, by its number.
+#[derive(Clone, Copy)]
+pub enum StoreRefusal {
+    NoPlace = 3,
+}
