@@ -52,3 +52,6 @@ no-part s r bs le h = sym (none s bs (λ k lt. h k (omega arith)))
 pub behind-less : (s : ℕ) (bs : List ℕ) → extent (behind s bs) < extent (Some bs)
 behind-less s [] = omega arith
 behind-less s (b ∷ bs) = cond-both (eqb b s) (Some bs) (behind s bs) (λ o. extent o < extent (Some (b ∷ bs))) (λ _. omega arith) (λ _. let h = behind-less s bs in omega arith)
+
+pub line-less : (o b : Option (List ℕ)) (bs : List ℕ) → o ≡ Some bs → b ≡ behind 10 bs → extent b < extent o
+line-less o b bs e f = rw (e, f) (behind-less 10 bs)

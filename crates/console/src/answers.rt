@@ -2,12 +2,12 @@
 ghost use mathlib.Core.Path.{_≡_};
 ghost use Prim.Native.Nat.{_/_, _%_, _<_};
 ghost use mathlib.Core.List.{_++_, _∷_, []};
+ghost use lib.Chars.{codes};
 ghost use Rattle.std.specs.Of.Vec.{vec-items};
 ghost use Rattle.std.specs.Vec.{made};
 ghost use Rattle.std.specs.Written.{decimal};
 ghost use Rattle.console.specs.Words.{hex-digit, hex, hex-word};
 use std::alloc::AllocError;
-use std::alloc::Global;
 
 fn hex_digit_of(n: u8) -> u8
     requires { ⌜ n < 16 ⌝ }
@@ -16,7 +16,7 @@ fn hex_digit_of(n: u8) -> u8
     if n < 10 { n + b'0' } else { n + 87 }
 }
 
-fn append(out: &mut Vec<u8>, more: &[u8]) -> Result<(), AllocError>
+pub(crate) fn append(out: &mut Vec<u8>, more: &[u8]) -> Result<(), AllocError>
     ensures { λ r. ⌜ made r (λ _. vec-items (now (out .exit)) ≡ vec-items (now (out .entry)) ++ now (more .entry)) ⌝ }
 {
     out.extend_from_slice(more)
@@ -58,9 +58,17 @@ pub(crate) fn add_bytes(out: &mut Vec<u8>, bytes: &[u8]) -> Result<(), AllocErro
 }
 
 // A space and the number in decimal.
-pub(crate) fn add_number(heap: Global, out: &mut Vec<u8>, n: u64) -> Result<(), AllocError>
+pub(crate) fn add_number(out: &mut Vec<u8>, n: u64) -> Result<(), AllocError>
     ensures { λ r. ⌜ made r (λ _. vec-items (now (out .exit)) ≡ vec-items (now (out .entry)) ++ (32 ∷ decimal n)) ⌝ }
 {
-    let text = format!(heap, "{n}")?;
+    let text = format!(out.allocator(), "{n}")?;
     add_word(out, text.as_str().as_bytes())
+}
+
+// A refusal by its number.
+pub(crate) fn add_refusal(out: &mut Vec<u8>, number: u8) -> Result<(), AllocError>
+    ensures { λ r. ⌜ made r (λ _. vec-items (now (out .exit)) ≡ vec-items (now (out .entry)) ++ (codes " refused " ++ decimal number)) ⌝ }
+{
+    append(out, b" refused")?;
+    add_number(out, number as u64)
 }

@@ -1,5 +1,4 @@
 // The commands of a script, read from the words of their lines.
-ghost use Prim.Native.Nat.{_≤_};
 use crate::words::LineFault;
 use crate::words::LineFaultFromAlloc;
 use crate::words::cut_at_first;
@@ -9,9 +8,6 @@ use copy_bytes::reading::read_id;
 use ratchet::ids::Id;
 use std::alloc::Global;
 
-// The most slots and the most bytes of output that a script can ask for.
-pub(crate) const MOST: usize = 1_048_576;
-
 // What an archive is made of.
 #[derive(Clone, Copy)]
 pub(crate) struct Plan {
@@ -19,10 +15,9 @@ pub(crate) struct Plan {
     pub(crate) floor: u32,
 }
 
+// What an archive and its sender are asked.
 #[derive(Drop)]
-pub(crate) enum Command {
-    Archive(Plan),
-    Space(usize),
+pub(crate) enum Call {
     Sender(Id, Vec<u8>),
     Seal(Vec<u8>),
     Share(u32),
@@ -34,6 +29,13 @@ pub(crate) enum Command {
     Free,
     Floor,
     Advance(Vec<u8>, u32),
+}
+
+#[derive(Drop)]
+pub(crate) enum Command {
+    Archive(Plan),
+    Space(usize),
+    Call(Call),
 }
 
 fn read_index(word: &[u8]) -> Result<u32, LineFault> {
@@ -68,7 +70,7 @@ fn two_words(rest: &[u8]) -> Result<(&[u8], &[u8]), LineFault> {
     }
 }
 
-fn read_archive(rest: &[u8]) -> Result<Command, LineFault> {
+fn read_archive(rest: &[u8]) -> Result<Plan, LineFault> {
     let (suite, rest) = two_words(rest)?;
     let (store, rest) = two_words(rest)?;
     let (places, rest) = two_words(rest)?;
@@ -79,49 +81,47 @@ fn read_archive(rest: &[u8]) -> Result<Command, LineFault> {
     let places = read_count(places)?;
     let _sightings = read_count(sightings)?;
     let floor = read_index(floor)?;
-    Ok(Command::Archive(Plan { places, floor }))
+    Ok(Plan { places, floor })
 }
 
-fn read_sender(heap: Global, rest: &[u8]) -> Result<Command, LineFault> {
+fn read_sender(heap: Global, rest: &[u8]) -> Result<Call, LineFault> {
     let (id, start) = two_words(rest)?;
-    Ok(Command::Sender(read_name(heap, id)?, read_bytes(heap, start)?))
+    Ok(Call::Sender(read_name(heap, id)?, read_bytes(heap, start)?))
 }
 
-fn read_open(heap: Global, rest: &[u8]) -> Result<Command, LineFault> {
+fn read_open(heap: Global, rest: &[u8]) -> Result<Call, LineFault> {
     let (id, message) = two_words(rest)?;
-    Ok(Command::Open(read_name(heap, id)?, read_bytes(heap, message)?))
+    Ok(Call::Open(read_name(heap, id)?, read_bytes(heap, message)?))
 }
 
-fn read_advance(heap: Global, rest: &[u8]) -> Result<Command, LineFault> {
+fn read_advance(heap: Global, rest: &[u8]) -> Result<Call, LineFault> {
     let (copy, target) = two_words(rest)?;
-    Ok(Command::Advance(read_bytes(heap, copy)?, read_index(target)?))
+    Ok(Call::Advance(read_bytes(heap, copy)?, read_index(target)?))
 }
 
-fn read_next(heap: Global, word: &[u8]) -> Result<Command, LineFault> {
+fn read_next(heap: Global, word: &[u8]) -> Result<Call, LineFault> {
     if word == b"-" {
-        return Ok(Command::Next(None));
+        return Ok(Call::Next(None));
     }
-    Ok(Command::Next(Some(read_name(heap, word)?)))
+    Ok(Call::Next(Some(read_name(heap, word)?)))
 }
 
-fn read_lone(word: &[u8]) -> Result<Command, LineFault> {
+fn read_lone(word: &[u8]) -> Result<Call, LineFault> {
     match word {
-        b"free" => Ok(Command::Free),
-        b"floor" => Ok(Command::Floor),
+        b"free" => Ok(Call::Free),
+        b"floor" => Ok(Call::Floor),
         _ => Err(LineFault::BadLine),
     }
 }
 
-fn read_with(heap: Global, word: &[u8], rest: &[u8]) -> Result<Command, LineFault> {
+fn read_call(heap: Global, word: &[u8], rest: &[u8]) -> Result<Call, LineFault> {
     match word {
-        b"archive" => read_archive(rest),
-        b"space" => Ok(Command::Space(read_count(rest)?)),
         b"sender" => read_sender(heap, rest),
-        b"seal" => Ok(Command::Seal(read_bytes(heap, rest)?)),
-        b"share" => Ok(Command::Share(read_index(rest)?)),
-        b"take" => Ok(Command::Take(read_bytes(heap, rest)?)),
-        b"dispute" => Ok(Command::Dispute(read_name(heap, rest)?)),
-        b"look" => Ok(Command::Look(read_name(heap, rest)?)),
+        b"seal" => Ok(Call::Seal(read_bytes(heap, rest)?)),
+        b"share" => Ok(Call::Share(read_index(rest)?)),
+        b"take" => Ok(Call::Take(read_bytes(heap, rest)?)),
+        b"dispute" => Ok(Call::Dispute(read_name(heap, rest)?)),
+        b"look" => Ok(Call::Look(read_name(heap, rest)?)),
         b"next" => read_next(heap, rest),
         b"open" => read_open(heap, rest),
         b"advance" => read_advance(heap, rest),
@@ -131,8 +131,12 @@ fn read_with(heap: Global, word: &[u8], rest: &[u8]) -> Result<Command, LineFaul
 
 pub(crate) fn read_command(heap: Global, line: &[u8]) -> Result<Command, LineFault> {
     let cut = cut_at_first(line, b' ');
-    match cut.back {
-        None => read_lone(cut.front),
-        Some(rest) => read_with(heap, cut.front, rest),
+    let Some(rest) = cut.back else {
+        return Ok(Command::Call(read_lone(cut.front)?));
+    };
+    match cut.front {
+        b"archive" => Ok(Command::Archive(read_archive(rest)?)),
+        b"space" => Ok(Command::Space(read_count(rest)?)),
+        word => Ok(Command::Call(read_call(heap, word, rest)?)),
     }
 }

@@ -27,6 +27,7 @@ impl<'a> Script<'a> {
     pub(crate) fn next_line(&mut self) -> Option<&'a [u8]>
         ensures line { λ r. ⌜ mapped now r ≡ first-line (mapped now (now (self .entry) .rest)) ⌝ }
         ensures rest { λ _. ⌜ mapped now (now (self .exit) .rest) ≡ later-lines (mapped now (now (self .entry) .rest)) ⌝ }
+        ensures left { λ r. ⌜ BySome r (Unit {0}) (λ _. extent (mapped now (now (self .exit) .rest)) < extent (mapped now (now (self .entry) .rest))) ⌝ }
     {
         let Some(text) = self.rest else {
             return None;
@@ -35,5 +36,12 @@ impl<'a> Script<'a> {
         self.rest = line.back;
         self.lines = self.lines.saturating_add(1);
         Some(line.front)
+    }
+
+    // How many lines were given out: the number of the last one.
+    pub(crate) fn lines(&self) -> u64
+        ensures { λ r. ⌜ r ≡ now (self .entry) .lines ⌝ }
+    {
+        self.lines
     }
 }
