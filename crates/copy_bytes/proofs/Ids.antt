@@ -1,22 +1,22 @@
 -- Ids with the same words are one, and their bytes go there and back.
-use Prim.Native.Nat.{ℕ, _+_, _*_, _-_, _/_, _%_, _^_, _<_, _≤_}
+use Prim.Native.Nat.{ℕ, _+_, _*_, _/_, _%_, _^_, _<_, _≤_}
 use mathlib.Core.Path.{_≡_, PathP, refl, sym, ap, _∙_}
 use mathlib.Core.HLevel.{isProp→PathP}
 use mathlib.Core.List.{List, [], _∷_, _++_}
 use native.Mathlib.Bridge.{le-prop}
-use native.Mathlib.Nat.{mod-eq-of-lt, add-zero}
+use native.Mathlib.Nat.{mod-eq-of-lt, add-zero, zero-add}
 use native.Mathlib.Omega.{arith}
 use lib.Arith.{digits-div, digits-mod}
-use lib.ListN.{length, getD, take, drop, length-append, length-take, length-drop, take-append-drop}
+use lib.ListN.{length, getD, take, drop, length-take, length-drop, take-append-drop}
 use lib.Seq.{drop-drop, take-all, getD-drop}
-use Rattle.std.specs.shelf.Digits.{number, Under}
+use Rattle.std.specs.shelf.Digits.{numberAfter, number, Under}
 use Rattle.std.specs.shelf.Lists.{All}
 use Rattle.std.proofs.shelf.Elements.{all-take, all-drop, all-append}
 use Rattle.std.proofs.shelf.Digits.{number-lt, number-more}
 use Rattle.ratchet.specs.declared.ids.Id.{Id}
 use Rattle.ratchet.specs.Bytes.{Byte, be}
 use Rattle.ratchet.specs.Ids.{id-number, id-bytes, id-of, word}
-use Rattle.ratchet.proofs.Bytes.{length-be, under-be, number-be, be-number}
+use Rattle.ratchet.proofs.Bytes.{under-be, number-be, be-number}
 
 pub length-id : (k : Id) → length (id-bytes k) ≡ 32
 unfolding id-bytes
@@ -72,6 +72,22 @@ module _ (bs : List ℕ) (long : length bs ≡ 32) (bytes : All Byte bs) where
       (λ i. word-forth 0 (omega arith) i ++ (word-forth 8 (omega arith) i ++ (word-forth 16 (omega arith) i ++ word-forth 24 (omega arith) i)))
       ∙ sym (cut 0 (cut 8 (cut 16 last)))
 
+-- a word's bytes behind a number
+digits : (a d0 d1 d2 d3 d4 d5 d6 d7 : ℕ)
+    → numberAfter 256 a (d0 ∷ d1 ∷ d2 ∷ d3 ∷ d4 ∷ d5 ∷ d6 ∷ d7 ∷ []) ≡ a * 2 ^ 64 + number 256 (d0 ∷ d1 ∷ d2 ∷ d3 ∷ d4 ∷ d5 ∷ d6 ∷ d7 ∷ [])
+digits a d0 d1 d2 d3 d4 d5 d6 d7 = omega arith
+
+after : (a v : ℕ) (bs : List ℕ) → v < 2 ^ 64 → numberAfter 256 a (be 8 v ++ bs) ≡ numberAfter 256 (a * 2 ^ 64 + v) bs
+after a v bs h =
+    ap (λ n. numberAfter 256 n bs) (digits a _ _ _ _ _ _ _ _ ∙ ap (λ n. a * 2 ^ 64 + n) (number-be 8 v ∙ mod-eq-of-lt h))
+
+pub id-numbered : (k : Id) → number 256 (id-bytes k) ≡ id-number k
+unfolding id-bytes
+id-numbered k =
+    let b3 = be 8 (k .w3) in
+    after 0 (k .w0) (be 8 (k .w1) ++ (be 8 (k .w2) ++ b3)) (k .fits0) ∙ ap (λ n. numberAfter 256 n (be 8 (k .w1) ++ (be 8 (k .w2) ++ b3))) (zero-add (k .w0))
+    ∙ after (k .w0) (k .w1) (be 8 (k .w2) ++ b3) (k .fits1) ∙ after _ (k .w2) b3 (k .fits2) ∙ after _ (k .w3) [] (k .fits3)
+
 -- the last word of a number, and what stands before it
 split : (a b x y : ℕ) → x < 2 ^ 64 → y < 2 ^ 64 → a * 2 ^ 64 + x ≡ b * 2 ^ 64 + y → (a ≡ b) × (x ≡ y)
 split a b x y p q e = (sym (digits-div a p) ∙ ap (λ n. n / 2 ^ 64) e ∙ digits-div b q, sym (digits-mod a p) ∙ ap (λ n. n % 2 ^ 64) e ∙ digits-mod b q)
@@ -90,7 +106,7 @@ four xs h =
 
 pub eight : (xs : List ℕ) → 8 ≤ length xs
     → number 256 (take 8 xs) ≡ getD xs 0 0 * 72057594037927936 + getD xs 1 0 * 281474976710656 + getD xs 2 0 * 1099511627776 + getD xs 3 0 * 4294967296
-        + getD xs 4 0 * 16777216 + getD xs 5 0 * 65536 + getD xs 6 0 * 256 + getD xs 7 0
+    + getD xs 4 0 * 16777216 + getD xs 5 0 * 65536 + getD xs 6 0 * 256 + getD xs 7 0
 eight xs h =
     let front = four xs (omega arith) in
     omega (arith, number-more 256 xs 4 (omega arith), number-more 256 xs 5 (omega arith), number-more 256 xs 6 (omega arith), number-more 256 xs 7 (omega arith))
@@ -98,7 +114,7 @@ eight xs h =
 -- a word at a place, as the code reads it
 pub word-read : (bs : List ℕ) (i r : ℕ) → i + 8 ≤ length bs → r < 2 ^ 64
     → r ≡ getD bs i 0 * 72057594037927936 + getD bs (i + 1) 0 * 281474976710656 + getD bs (i + 2) 0 * 1099511627776 + getD bs (i + 3) 0 * 4294967296
-        + getD bs (i + 4) 0 * 16777216 + getD bs (i + 5) 0 * 65536 + getD bs (i + 6) 0 * 256 + getD bs (i + 7) 0
+    + getD bs (i + 4) 0 * 16777216 + getD bs (i + 5) 0 * 65536 + getD bs (i + 6) 0 * 256 + getD bs (i + 7) 0
     → r ≡ word (drop i bs)
 word-read bs i r h fits is =
     let xs = drop i bs in

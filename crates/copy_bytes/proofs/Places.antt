@@ -1,16 +1,15 @@
 -- Writing one piece after another into an output.
 use Prim.Native.Nat.{ℕ, zero, suc, _+_, _-_, _/_, _%_, _^_, _≤_, _<_}
-use mathlib.Core.Path.{_≡_, refl, sym, ap, _∙_}
+use mathlib.Core.Path.{_≡_, sym, ap, _∙_}
 use mathlib.Core.List.{List, [], _∷_, _++_, append-assoc}
-use native.Mathlib.Nat.{zero-add}
 use native.Mathlib.Omega.{arith}
 use borrow.Rule.Slice.PartMut.{putMid}
 use lib.ListN.{length, take, drop, length-append, length-take, length-drop}
 use lib.Seq.{drop-drop, take-at, drop-at}
-use Rattle.std.specs.declared.result.Result.the-variants.{Ok, Err}
+use Rattle.std.specs.declared.result.Result.the-variants.{Err}
 use Rattle.std.proofs.shelf.Lists.{length-take-le}
 use Rattle.std.proofs.shelf.Tests.{lt-leb, cond-false}
-use Rattle.ratchet.specs.Bytes.{be, laid}
+use Rattle.ratchet.specs.Bytes.{be}
 use Rattle.copy_bytes.specs.declared.output.SpaceRefusal.the-variants.{TooSmall}
 use Rattle.copy_bytes.specs.Output.{fits, answered, filled}
 use Rattle.copy_bytes.specs.Placed.{placed, Put}
@@ -20,9 +19,6 @@ pub placed-part : (a e : ℕ) (old ys xs : List ℕ) → ys ≡ xs → e ≡ a +
 placed-part a e old ys xs is size =
     let n : a + (e - a) ≡ a + length xs = omega arith in
     (λ i. take a old ++ (is i ++ drop (e - a) (drop a old))) ∙ ap (λ zs. take a old ++ (xs ++ zs)) (drop-drop (e - a) a old ∙ ap (λ k. drop k old) n)
-
-placed-laid : (xs old : List ℕ) → placed 0 xs old ≡ laid xs old
-placed-laid xs old = ap (λ n. xs ++ drop n old) (zero-add (length xs))
 
 -- two pieces are one longer piece
 placed-placed : (a : ℕ) (xs ys old : List ℕ) → a ≤ length old → placed (a + length xs) ys (placed a xs old) ≡ placed a (xs ++ ys) old
@@ -48,10 +44,6 @@ put-join {a} {b} {e} {xs} {ys} {old} {cur} {new} f g =
       size = omega (arith, length-append xs ys);
       holds = g .holds ∙ (λ i. placed (f .size i) ys (f .holds i)) ∙ placed-placed a xs ys old (omega arith);
     }
-
--- what stands at the front is laid over the output
-pub put-laid : {b : ℕ} {xs old new : List ℕ} → Put 0 xs old b new → new ≡ laid xs old
-put-laid {b} {xs} {old} f = f .holds ∙ placed-laid xs old
 
 -- the last byte of a number, as the code has it
 pub be-last : (n v : ℕ) → take n (be (suc n) v) ++ (v % 256 ∷ []) ≡ be (suc n) v

@@ -1,14 +1,13 @@
 -- Copy bytes there and back, both ways.
-use Prim.Native.Nat.{ℕ, _+_, _*_, _-_, _^_, _<_, _≤_}
+use Prim.Native.Nat.{ℕ, _+_, _*_, _^_, _<_, _≤_}
 use mathlib.Core.Path.{_≡_, refl, sym, ap, _∙_}
-use mathlib.Core.Bool.{Bool, true, false, cond, _||_}
+use mathlib.Core.Bool.{Bool, true, false, cond}
 use mathlib.Core.List.{List, [], _∷_, _++_, append-assoc}
 use native.Mathlib.Nat.{mod-eq-of-lt}
 use native.Mathlib.Omega.{arith}
-use lib.Dec.{eqb}
 use lib.ListN.{length, getD, take, drop, length-append, length-take, length-drop, take-append-drop}
 use lib.Seq.{drop-drop, take-at, drop-at}
-use Rattle.std.specs.shelf.Digits.{number, Under}
+use Rattle.std.specs.shelf.Digits.{number}
 use Rattle.std.specs.shelf.Lists.{All}
 use Rattle.std.specs.declared.result.Result.{Result}
 use Rattle.std.specs.declared.result.Result.the-variants.{Ok, Err}
@@ -29,7 +28,7 @@ use Rattle.copy_bytes.specs.declared.named.Accepted.{Accepted}
 use Rattle.copy_bytes.specs.declared.named.Accepted.the-variants.{ShareOrExport, Export as ExportAlone}
 use Rattle.copy_bytes.specs.CopyBytes.{version-byte, accepts, part-bytes, copy-bytes, part-at, copy-of, named-of, read-copy, read-start}
 use Rattle.copy_bytes.specs.Laws.{Copy-laws}
-use Rattle.copy_bytes.proofs.CopyBytes.{length-parts, length-copy}
+use Rattle.copy_bytes.proofs.CopyBytes.{length-parts, length-copy, bytes-copy}
 use Rattle.copy_bytes.proofs.Ids.{id-back, id-forth}
 
 -- what a test has let through
@@ -135,8 +134,7 @@ module _ {P : Type 0} (m : Meaning P) (laws : Lawful m) where
       let t = checked _ _ _ n (s .1) in
       (eqb-true _ _ (s .0), t .0, ok-is _ _ (t .1))
 
-  -- the index of what is read is one
-  pub read-index : (a : Accepted) (bs : List ℕ) (n : NamedCopy P) → All Byte bs → read-copy m a bs ≡ Ok n → n .copy .index < 2 ^ 32
+  read-index : (a : Accepted) (bs : List ℕ) (n : NamedCopy P) → All Byte bs → read-copy m a bs ≡ Ok n → n .copy .index < 2 ^ 32
   unfolding named-of copy-of
   read-index a bs n bytes h =
       let r = read-ok a bs n h in
@@ -165,8 +163,11 @@ module _ {P : Type 0} (m : Meaning P) (laws : Lawful m) where
 
   pub copy-laws : Copy-laws m
   copy-laws = record {
+    long = length-copy m laws;
+    bytes = bytes-copy m laws;
     either = λ v n small. read-back v ShareOrExport n small (takes-either v);
     exported = λ n small. read-back Export ExportAlone n small (eq-eqb (m .export-byte) _ refl);
+    indexed = read-index;
     again = read-again;
     start = start-back;
     start-again = start-again;

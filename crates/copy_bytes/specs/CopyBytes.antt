@@ -36,6 +36,9 @@ part-bytes m c = m .encode (c .r0) ++ (m .encode (c .r1) ++ (m .encode (c .r2) +
 unfoldable pub copy-bytes : {P : Type 0} → Meaning P → Version → NamedCopy P → List ℕ
 copy-bytes m v n = (version-byte m v ∷ []) ++ (be 4 (n .copy .index) ++ (part-bytes m (n .copy) ++ id-bytes (n .id)))
 
+abbrev pub copy-length : {P : Type 0} → Meaning P → ℕ
+copy-length m = 37 + 4 * m .width
+
 -- the part that stands at a place
 abbrev pub part-at : {P : Type 0} → Meaning P → ℕ → List ℕ → P
 part-at m at bs = m .decode (take (m .width) (drop at bs))
@@ -59,7 +62,7 @@ named-of m bs = record {
 -- the length is asked before the version byte
 abbrev pub read-copy : {P : Type 0} → Meaning P → Accepted → List ℕ → Result (NamedCopy P) CopyFault
 read-copy m a bs =
-    cond (eqb (length bs) (37 + 4 * m .width)) (cond (accepts m a (getD bs 0 0)) (Ok (named-of m bs)) (Err WrongVersion)) (Err WrongLength)
+    cond (eqb (length bs) (copy-length m)) (cond (accepts m a (getD bs 0 0)) (Ok (named-of m bs)) (Err WrongVersion)) (Err WrongLength)
 
 -- the bytes that a sender starts from: four parts, at index 0
 abbrev pub read-start : {P : Type 0} → Meaning P → List ℕ → Result (SessionCopy P) CopyFault

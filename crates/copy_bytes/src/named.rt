@@ -1,6 +1,6 @@
 use ratchet::copies::SessionCopy;
-use ratchet::ids::Id;
 use ratchet::copies::SessionCopyClone;
+use ratchet::ids::Id;
 
 // A copy of a session under the session's id.
 #[derive(Clone, Copy)]

@@ -1,12 +1,13 @@
 ghost use mathlib.Core.Path.{_≡_};
-ghost use Prim.Native.Nat.{ℕ, _+_, _*_, _≤_};
+ghost use Prim.Native.Nat.{_+_, _*_, _≤_};
 ghost use lib.ListN.{length, take, drop};
 ghost use Rattle.std.specs.shelf.Digits.{number};
 ghost use Rattle.ratchet.specs.Ids.{word, id-of};
-ghost use Rattle.copy_bytes.specs.CopyBytes.{accepts, part-at, copy-of, named-of, read-copy, read-start, read-id};
+ghost use Rattle.copy_bytes.specs.CopyBytes.{accepts, copy-length, part-at, copy-of, named-of, read-copy, read-start, read-id};
 use crate::named::Accepted;
 use crate::named::CopyFault;
 use crate::named::NamedCopy;
+use crate::writing::copy_length;
 use ratchet::copies::SessionCopy;
 use ratchet::ids::Id;
 use ratchet::suite::Suite;
@@ -70,7 +71,7 @@ fn index_in(bytes: &[u8]) -> u32
 }
 
 fn named_in<P: Suite>(bytes: &[u8]) -> NamedCopy<P>
-    requires { ⌜ length (now bytes) ≡ 37 + 4 * suite .width ⌝ }
+    requires { ⌜ length (now bytes) ≡ copy-length suite ⌝ }
     ensures { λ r. ⌜ r ≡ named-of suite (now (bytes .entry)) ⌝ }
 {
     NamedCopy {
@@ -83,7 +84,7 @@ fn takes<P: Suite>(accepted: Accepted, byte: u8) -> bool
     ensures { λ r. ⌜ r ≡ accepts suite accepted byte ⌝ }
 {
     match accepted {
-        Accepted::ShareOrExport => (byte == P::share_byte()) | (byte == P::export_byte()),
+        Accepted::ShareOrExport => byte == P::share_byte() || byte == P::export_byte(),
         Accepted::Export => byte == P::export_byte(),
     }
 }
@@ -92,7 +93,7 @@ fn takes<P: Suite>(accepted: Accepted, byte: u8) -> bool
 pub fn read_copy<P: Suite>(bytes: &[u8], accepted: Accepted) -> Result<NamedCopy<P>, CopyFault>
     ensures { λ r. ⌜ r ≡ read-copy suite accepted (now (bytes .entry)) ⌝ }
 {
-    if bytes.len() != 37 + 4 * P::width() {
+    if bytes.len() != copy_length::<P>() {
         return Err(CopyFault::Length);
     }
     if takes::<P>(accepted, bytes[0]) {

@@ -1,8 +1,8 @@
 ghost use mathlib.Core.Path.{_≡_};
-ghost use Prim.Native.Nat.{ℕ, _+_, _*_, _≤_};
+ghost use Prim.Native.Nat.{_+_, _*_, _≤_};
 ghost use lib.ListN.{length};
 ghost use Rattle.ratchet.specs.Ids.{id-bytes};
-ghost use Rattle.copy_bytes.specs.CopyBytes.{version-byte, copy-bytes};
+ghost use Rattle.copy_bytes.specs.CopyBytes.{version-byte, copy-bytes, copy-length};
 ghost use Rattle.copy_bytes.specs.Output.{answered, filled};
 ghost use Rattle.copy_bytes.specs.Placed.{Put};
 use crate::named::NamedCopy;
@@ -15,6 +15,13 @@ use crate::placing::put_part;
 use ratchet::ids::Id;
 use ratchet::suite::Suite;
 
+// How many bytes a copy takes.
+pub fn copy_length<P: Suite>() -> usize
+    ensures { λ r. ⌜ r ≡ copy-length suite ⌝ }
+{
+    37 + 4 * P::width()
+}
+
 fn byte_of<P: Suite>(version: Version) -> u8
     ensures { λ r. ⌜ r ≡ version-byte suite version ⌝ }
 {
@@ -25,7 +32,7 @@ fn byte_of<P: Suite>(version: Version) -> u8
 }
 
 fn lay_copy<P: Suite>(version: Version, named: &NamedCopy<P>, out: &mut [u8]) -> usize
-    requires { ⌜ 37 + 4 * suite .width ≤ length (now out) ⌝ }
+    requires { ⌜ copy-length suite ≤ length (now out) ⌝ }
     ensures { λ r. ⌜ Put 0 (copy-bytes suite version (now (named .entry))) (now (out .entry)) r (now (out .exit)) ⌝ }
 {
     let a = put_at(&[byte_of::<P>(version)], out, 0);
@@ -38,11 +45,15 @@ fn lay_copy<P: Suite>(version: Version, named: &NamedCopy<P>, out: &mut [u8]) ->
 }
 
 // Writes a copy with one of its suite's version bytes.
-pub fn write_copy<P: Suite>(version: Version, named: &NamedCopy<P>, out: &mut [u8]) -> Result<usize, SpaceRefusal>
+pub fn write_copy<P: Suite>(
+    version: Version,
+    named: &NamedCopy<P>,
+    out: &mut [u8],
+) -> Result<usize, SpaceRefusal>
     ensures value { λ r. ⌜ r ≡ answered (copy-bytes suite version (now (named .entry))) (now (out .entry)) ⌝ }
     ensures after { λ _. ⌜ now (out .exit) ≡ filled (copy-bytes suite version (now (named .entry))) (now (out .entry)) ⌝ }
 {
-    if out.len() < 37 + 4 * P::width() {
+    if out.len() < copy_length::<P>() {
         return Err(SpaceRefusal::TooSmall);
     }
     Ok(lay_copy(version, named, out))

@@ -8,8 +8,6 @@ use native.Mathlib.Omega.{arith}
 use lib.Dec.{eqb, ltb}
 use Rattle.std.specs.declared.option.Option.{Option}
 use Rattle.std.specs.declared.option.Option.the-variants.{Some, None}
-use Rattle.std.specs.declared.result.Result.{Result}
-use Rattle.std.specs.declared.result.Result.the-variants.{Err}
 use Rattle.std.specs.Options.{isSome, mapped}
 use Rattle.std.proofs.shelf.Tests.{cases-bool}
 use Rattle.store.specs.Laws.{Value-laws}
@@ -37,14 +35,14 @@ module _ {K V : Type 0} (rank : K → ℕ) (f : V → V) where
   each-first (e ∷ m) (Some k) = elim (cases-bool (ltb (rank k) (rank (e .0)))) [ inl y ↦ rw y | inr y ↦ rw y (each-first m (Some k)) ]
 
   each-put : (join : V → V → V) (m : List (K × V)) (k : K) (w x : V) → f w ≡ x → ((a : V) → f (join a w) ≡ join (f a) x) →
-    each f (put rank join m k w) ≡ put rank join (each f m) k x
+      each f (put rank join m k w) ≡ put rank join (each f m) k x
   each-put join [] k w x e h = ap (λ y. (k, y) ∷ []) e
   each-put join (d ∷ m) k w x e h =
       elim (cases-bool (ltb (rank k) (rank (d .0)))) [
-        inl y ↦ rw y (ap (λ z. (k, z) ∷ (d .0, f (d .1)) ∷ each f m) e)
-      | inr y ↦ elim (cases-bool (eqb (rank (d .0)) (rank k))) [
-          inl z ↦ rw (y, z) (ap (λ u. (k, u) ∷ each f m) (h (d .1)))
-        | inr z ↦ rw (y, z) (ap (λ u. (d .0, f (d .1)) ∷ u) (each-put join m k w x e h))
+        | inl y ↦ rw y (ap (λ z. (k, z) ∷ (d .0, f (d .1)) ∷ each f m) e)
+        | inr y ↦ elim (cases-bool (eqb (rank (d .0)) (rank k))) [
+          | inl z ↦ rw (y, z) (ap (λ u. (k, u) ∷ each f m) (h (d .1)))
+          | inr z ↦ rw (y, z) (ap (λ u. (d .0, f (d .1)) ∷ u) (each-put join m k w x e h))
         ]
       ]
 
@@ -67,8 +65,8 @@ module _ {K V : Type 0} (rank : K → ℕ) (join : V → V → V) (raise : ℕ �
       let joins : (a : V) → raise f (join a w) ≡ join (raise f a) x = λ a. ap (λ y. raise f (join a y)) swap ∙ laws .under f a (raise g v) ∙ ap (join (raise f a)) both in
       let puts = each-put rank (raise f) join (m .entries) k w x again joins in
       elim (cases-bool (room rank m k)) [
-        inl y ↦ rw (held-same, y) (ap (of (max f g) (cond (isSome (looked rank m k)) (m .places) (m .places - 1))) puts)
-      | inr y ↦ rw (held-same, y)
+        | inl y ↦ rw (held-same, y) (ap (of (max f g) (cond (isSome (looked rank m k)) (m .places) (m .places - 1))) puts)
+        | inr y ↦ rw (held-same, y)
       ] where
-      of : ℕ → ℕ → List (K × V) → Meaning K V
-      of a p es = record { entries = es; floor = a; places = p }
+        of : ℕ → ℕ → List (K × V) → Meaning K V
+        of a p es = record { entries = es; floor = a; places = p }

@@ -19,13 +19,13 @@ use Rattle.floors.specs.Merging.{fresh, room-for, put-all, merged}
 module _ {K V : Type 0} (rank : K → ℕ) where
   -- the entry that came is counted, and the rest is still to come
   pub next-fresh : (m s : List (K × V)) (o : Option K) (e : K × V) → Rising rank 0 s → Some e ≡ first (beyond rank s o) →
-    fresh rank m (beyond rank s o) ≡ cond (isSome (found rank m (e .0))) 0 1 + fresh rank m (beyond rank s (Some (e .0)))
+      fresh rank m (beyond rank s o) ≡ cond (isSome (found rank m (e .0))) 0 1 + fresh rank m (beyond rank s (Some (e .0)))
   next-fresh m s o e r h = ap (fresh rank m) (next-rest rank s o e r h)
 
 module _ {K V : Type 0} (rank : K → ℕ) (join : V → V → V) where
   -- a key that is put makes no later key new or known
   fresh-put : (m s : List (K × V)) (k : K) (v : V) → Rising rank 0 m → Rising rank (suc (rank k)) s →
-    fresh rank (put rank join m k v) s ≡ fresh rank m s
+      fresh rank (put rank join m k v) s ≡ fresh rank m s
   fresh-put m [] k v f g = refl
   fresh-put m (e ∷ s) k v f g =
       let ih = fresh-put m s k v f (rising-low rank (suc (rank (e .0))) (suc (rank k)) s (let h = g .0 in omega arith) (g .1)) in
@@ -52,8 +52,8 @@ module _ {K V : Type 0} (rank : K → ℕ) (join : V → V → V) (raise : ℕ �
     left-room : Left m (e ∷ s) → room rank m (e .0) ≡ true
     left-room l =
         elim (cases-bool (isSome (looked rank m (e .0)))) [
-          inl y ↦ or-left _ _ y
-        | inr y ↦ or-right _ _ (let h = l .enough in lt-ltb 0 (m .places) (grind (arith, tells)))
+          | inl y ↦ or-left _ _ y
+          | inr y ↦ or-right _ _ (let h = l .enough in lt-ltb 0 (m .places) (grind (arith, tells)))
         ]
 
     left-step : Left m (e ∷ s) → Left (taken rank join raise m (e .0) (e .1)) s
@@ -68,12 +68,12 @@ module _ {K V : Type 0} (rank : K → ℕ) (join : V → V → V) (raise : ℕ �
           floor = l .floor;
           same = l .same;
           count = grind (arith, tells);
-          enough = grind (arith, tells)
+          enough = grind (arith, tells);
         })
 
   -- the next entry is taken
   pub left-next : (m n : Meaning K V) (o : Option K) (e : K × V) → Rising rank 0 all → Some e ≡ first (beyond rank all o) → n ≡ taken rank join raise m (e .0) (e .1) →
-    Left m (beyond rank all o) → Left n (beyond rank all (Some (e .0)))
+      Left m (beyond rank all o) → Left n (beyond rank all (Some (e .0)))
   left-next m n o e r h after l =
       let at = next-rest rank all o e r h in
       let up = subst (λ t. Rising rank 0 t) at (beyond-rising rank 0 all o r) in

@@ -1,3 +1,5 @@
-// What is laid over any store: a floor, and the merge of one store into another.
+// What works on any store: a floor laid over it, another store merged into it, and copy bytes taken in.
 pub mod layer;
 pub mod merge;
+pub mod take_refusal;
+pub mod taking;

@@ -28,7 +28,10 @@ fn has_room<K: Key, V: Value, A: Store<K, V>, B: Store<K, V>>(dst: &A, src: &B) 
 }
 
 // Takes in every entry that `src` shows, or none.
-pub fn merge<K: Key, V: Value, A: Store<K, V>, B: Store<K, V>>(dst: &mut A, src: &B) -> Result<(), StoreRefusal>
+pub fn merge<K: Key, V: Value, A: Store<K, V>, B: Store<K, V>>(
+    dst: &mut A,
+    src: &B,
+) -> Result<(), StoreRefusal>
     ensures answer { λ r. ⌜ r ≡ answer (room-for rank (A·Store .means (now (dst .entry))) (B·Store .means (now (src .entry)) .entries)) ⌝ }
     ensures after { λ _. ⌜ A·Store .means (now (dst .exit)) ≡ merged rank join raise (A·Store .means (now (dst .entry))) (B·Store .means (now (src .entry)) .entries) ⌝ }
     ensures steady { λ _. ⌜ A·Store .steady (now (dst .entry)) (now (dst .exit)) ⌝ }

@@ -1,7 +1,5 @@
 -- Holdings and sightings keep the laws of values.
-use Prim.Native.Nat.{ℕ}
 use mathlib.Core.Path.{_≡_, refl}
-use lib.Dec.{eqb}
 use native.Mathlib.Omega.{arith}
 use Rattle.std.proofs.shelf.Ways.{tells}
 use Rattle.ratchet.specs.Suite.{Meaning, Lawful}

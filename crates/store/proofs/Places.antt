@@ -57,7 +57,7 @@ module _ {A : Type 0} (test : A → Bool) where
     pub sets : (y : A) → set xs i y ≡ swapped y xs
 
   at-cons : (x : A) (xs : List A) (i : ℕ) (b : Bool) (o : Option ℕ) → test x ≡ b → place test xs ≡ o → ((j : ℕ) → Some j ≡ o → At xs j) →
-    Some i ≡ cond b (Some 0) (mapped suc o) → At (x ∷ xs) i
+      Some i ≡ cond b (Some 0) (mapped suc o) → At (x ∷ xs) i
   at-cons x xs i true o t p ih q =
       let z : 0 ≡ i = cc in
       subst (At (x ∷ xs)) z (record { within = omega arith; is = λ d. rw t; sets = λ y. rw t })
@@ -75,9 +75,9 @@ module _ {A : Type 0} (test : A → Bool) where
   place-none [] h = refl
   place-none (x ∷ xs) h =
       elim (cases-bool (test x)) [
-        inl y ↦ absurd (let g : None ≡ Some 0 = rw y at h in let z : _≡_ {A = ℕ} 0 1 = cc in omega arith)
-      | inr y ↦ rw y (place-none xs (go (place test xs) (rw y at h)))
+        | inl y ↦ absurd (let g : None ≡ Some 0 = rw y at h in let z : _≡_ {A = ℕ} 0 1 = cc in omega arith)
+        | inr y ↦ rw y (place-none xs (go (place test xs) (rw y at h)))
       ] where
-      go : (o : Option ℕ) → None ≡ mapped suc o → None ≡ o
-      go None q = refl
-      go (Some j) q = absurd (let z : _≡_ {A = ℕ} 0 1 = cc in omega arith)
+        go : (o : Option ℕ) → None ≡ mapped suc o → None ≡ o
+        go None q = refl
+        go (Some j) q = absurd (let z : _≡_ {A = ℕ} 0 1 = cc in omega arith)

@@ -38,43 +38,43 @@ module _ {K V : Type 0} (rank : K → ℕ) where
   held-found [] k = refl
   held-found (Free ∷ s) k = held-found s k
   held-found (Held q v ∷ s) k =
-    let ih = held-found s k in
-    let at = found-put rank (λ _ w. w) 0 (held rank s) q v k (held-rising s) in
-    let m = last (found rank (held rank s) k) in
-    grind (arith, tells) where
-    last : (o : Option V) → more (λ _ w. w) o v ≡ v
-    last None = refl
-    last (Some x) = refl
+      let ih = held-found s k in
+      let at = found-put rank (λ _ w. w) 0 (held rank s) q v k (held-rising s) in
+      let m = last (found rank (held rank s) k) in
+      grind (arith, tells) where
+        last : (o : Option V) → more (λ _ w. w) o v ≡ v
+        last None = refl
+        last (Some x) = refl
 
   seen-none : (s : List (Slot K V)) (k : K) → hit (has-key rank k) s ≡ None → seen k s ≡ None
   unfolding seen
   seen-none [] k h = refl
   seen-none (Free ∷ s) k h = seen-none s k h
   seen-none (Held q v ∷ s) k h =
-    elim (cases-bool (eqb (rank q) (rank k))) [
-      inl y ↦ absurd (let g : Some (Held q v) ≡ None = rw y at h in let z : _≡_ {A = ℕ} 0 1 = cc in omega arith)
-    | inr y ↦ rw y (seen-none s k (rw y at h))
-    ]
+      elim (cases-bool (eqb (rank q) (rank k))) [
+        | inl y ↦ absurd (let g : Some (Held q v) ≡ None = rw y at h in let z : _≡_ {A = ℕ} 0 1 = cc in omega arith)
+        | inr y ↦ rw y (seen-none s k (rw y at h))
+      ]
 
   seen-hit : (s : List (Slot K V)) (k q : K) (v : V) → hit (has-key rank k) s ≡ Some (Held q v) → seen k s ≡ Some v
   unfolding seen
   seen-hit [] k q v h = absurd (let z : _≡_ {A = ℕ} 0 1 = cc in omega arith)
   seen-hit (Free ∷ s) k q v h = seen-hit s k q v h
   seen-hit (Held p x ∷ s) k q v h =
-    elim (cases-bool (eqb (rank p) (rank k))) [
-      inl y ↦ rw y (let g : Some (Held p x) ≡ Some (Held q v) = rw y at h in cc)
-    | inr y ↦ rw y (seen-hit s k q v (rw y at h))
-    ]
+      elim (cases-bool (eqb (rank p) (rank k))) [
+        | inl y ↦ rw y (let g : Some (Held p x) ≡ Some (Held q v) = rw y at h in cc)
+        | inr y ↦ rw y (seen-hit s k q v (rw y at h))
+      ]
 
   -- a slot that has the key is no free one
   pub hit-held : (s : List (Slot K V)) (k : K) → hit (has-key rank k) s ≡ Some Free → ⊥
   hit-held [] k h = let z : _≡_ {A = ℕ} 0 1 = cc in omega arith
   hit-held (Free ∷ s) k h = hit-held s k h
   hit-held (Held p x ∷ s) k h =
-    elim (cases-bool (eqb (rank p) (rank k))) [
-      inl y ↦ (let g : Some (Held p x) ≡ Some Free = rw y at h in let z : _≡_ {A = ℕ} 0 1 = cc in omega arith)
-    | inr y ↦ hit-held s k (rw y at h)
-    ]
+      elim (cases-bool (eqb (rank p) (rank k))) [
+        | inl y ↦ (let g : Some (Held p x) ≡ Some Free = rw y at h in let z : _≡_ {A = ℕ} 0 1 = cc in omega arith)
+        | inr y ↦ hit-held s k (rw y at h)
+      ]
 
   pub held-none : (s : List (Slot K V)) (k : K) → hit (has-key rank k) s ≡ None → found rank (held rank s) k ≡ None
   held-none s k h = held-found s k ∙ seen-none s k h
@@ -99,7 +99,7 @@ module _ {K V : Type 0} (rank : K → ℕ) where
   free-kept [] k v = refl
   free-kept (Free ∷ s) k v = ap suc (free-kept s k v)
   free-kept (Held p x ∷ s) k v =
-    elim (cases-bool (eqb (rank p) (rank k))) [ inl y ↦ rw y | inr y ↦ rw y (free-kept s k v) ]
+      elim (cases-bool (eqb (rank p) (rank k))) [ inl y ↦ rw y | inr y ↦ rw y (free-kept s k v) ]
 
   -- the lowest entry above a key
   picked : K → V → Option (K × V) → Option (K × V)
@@ -107,14 +107,14 @@ module _ {K V : Type 0} (rank : K → ℕ) where
   picked k v (Some e) = cond (ltb (rank (e .0)) (rank k)) (Some e) (Some (k, v))
 
   beyond-put : (n : ℕ) (m : List (K × V)) (o : Option K) (k : K) (v : V) → Rising rank n m →
-    first (beyond rank (put rank (λ _ w. w) m k v) o) ≡ cond (above rank o k) (picked k v (first (beyond rank m o))) (first (beyond rank m o))
+      first (beyond rank (put rank (λ _ w. w) m k v) o) ≡ cond (above rank o k) (picked k v (first (beyond rank m o))) (first (beyond rank m o))
   unfolding picked
   beyond-put n [] None k v f = refl
   beyond-put n [] (Some q) k v f = grind (arith, tells)
   beyond-put n (d ∷ m) None k v f = grind (arith, tells)
   beyond-put n (d ∷ m) (Some q) k v f =
-    let ih = beyond-put (suc (rank (d .0))) m (Some q) k v (f .1) in
-    grind (arith, tells)
+      let ih = beyond-put (suc (rank (d .0))) m (Some q) k v (f .1) in
+      grind (arith, tells)
 
   lower-of : Option (K × V) → Option (K × V) → Option (K × V)
   lower-of b None = b
@@ -138,11 +138,11 @@ module _ {K V : Type 0} (rank : K → ℕ) where
   lowest-of (Some q) b [] = refl
   lowest-of o b (Free ∷ s) = lowest-of o b s
   lowest-of o b (Held k v ∷ s) =
-    let at = beyond-put 0 (held rank s) o k v (held-rising s) in
-    elim (cases-bool (above rank o k)) [
-      inl y ↦ rw (at, y) (lowest-of o (lower rank b k v) s ∙ lower-picked b k v (first (beyond rank (held rank s) o)))
-    | inr y ↦ rw (at, y) (lowest-of o b s)
-    ]
+      let at = beyond-put 0 (held rank s) o k v (held-rising s) in
+      elim (cases-bool (above rank o k)) [
+        | inl y ↦ rw (at, y) (lowest-of o (lower rank b k v) s ∙ lower-picked b k v (first (beyond rank (held rank s) o)))
+        | inr y ↦ rw (at, y) (lowest-of o b s)
+      ]
 
   pub lowest-is : (o : Option K) (s : List (Slot K V)) → lowest rank o None s ≡ first (beyond rank (held rank s) o)
   lowest-is o s = lowest-of o None s ∙ lower-first (first (beyond rank (held rank s) o))
@@ -166,9 +166,13 @@ module _ {K V : Type 0} (rank : K → ℕ) where
   all-free zero = refl
   all-free (suc n) = let ih = all-free n in of-both _ _ _ _ (ap (λ m. m .entries) ih) (ap (λ m. suc (m .places)) ih)
 
-  -- the front of cleared slots
-  pub front-free : (n limit : ℕ) (s : List (Slot K V)) → s ≡ replicate n Free → slots-mean rank (take (min n limit - 0) s) ≡ of [] (min n limit)
-  front-free n limit s cleared =
-    let p : min n limit - 0 ≡ min n limit = omega arith in
-    ap (λ x. slots-mean rank (take (min n limit - 0) x)) cleared ∙ ap (λ x. slots-mean rank (take x (replicate n Free))) p
-    ∙ ap (slots-mean rank) (take-replicate (min n limit) n Free (omega arith)) ∙ all-free (min n limit)
+  module _ (n limit : ℕ) (s : List (Slot K V)) (cleared : s ≡ replicate n Free) where
+    -- all of some cleared slots, and as many as the limit of more
+    pub all-cleared : n ≤ limit → slots-mean rank s ≡ of [] (min n limit)
+    all-cleared le = ap (slots-mean rank) cleared ∙ all-free n ∙ ap (of []) (omega arith)
+
+    pub front-cleared : limit ≤ n → slots-mean rank (take (limit - 0) s) ≡ of [] (min n limit)
+    front-cleared le =
+        let p : limit - 0 ≡ limit = omega arith in
+        ap (λ t. slots-mean rank (take (limit - 0) t)) cleared ∙ ap (λ k. slots-mean rank (take k (replicate n Free))) p
+        ∙ ap (slots-mean rank) (take-replicate limit n Free le) ∙ all-free limit ∙ ap (of []) (omega arith)

@@ -1,7 +1,7 @@
 -- What a store means, and what its calls make of that.
 use Prim.Native.Nat.{ℕ, _-_}
 use mathlib.Core.Bool.{Bool, cond, _||_}
-use mathlib.Core.List.{List}
+use mathlib.Core.List.{List, []}
 use lib.Dec.{ltb}
 use Rattle.std.specs.declared.option.Option.{Option}
 use Rattle.std.specs.declared.result.Result.{Result}
@@ -16,6 +16,10 @@ pub record Meaning (K V : Type 0) : Type 0 where
   pub floor : ℕ
   -- how many keys more it can hold
   pub places : ℕ
+
+-- a store at floor 0 that holds nothing
+abbrev pub empty : {K V : Type 0} → ℕ → Meaning K V
+empty n = record { entries = []; floor = 0; places = n }
 
 -- accepted where there is room
 abbrev pub answer : Bool → Result (Unit {0}) StoreRefusal
@@ -44,5 +48,5 @@ module _ {K V : Type 0} (rank : K → ℕ) where
         (record {
           entries = put rank join (m .entries) k (raise (m .floor) v);
           floor = m .floor;
-          places = cond (isSome (looked m k)) (m .places) (m .places - 1)
+          places = cond (isSome (looked m k)) (m .places) (m .places - 1);
         }) m

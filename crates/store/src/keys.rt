@@ -16,7 +16,10 @@ pub impl Key for Id as IdKey {
     }
 
     fn same(self, other: Id) -> bool {
-        (self.w0 == other.w0) & (self.w1 == other.w1) & (self.w2 == other.w2) & (self.w3 == other.w3)
+        (self.w0 == other.w0)
+            & (self.w1 == other.w1)
+            & (self.w2 == other.w2)
+            & (self.w3 == other.w3)
     }
 }
 

@@ -42,7 +42,7 @@ fn free_place<K: Copy, V: Copy>(slots: &[Slot<K, V>]) -> Option<usize>
     None
 }
 
-pub fn count_free<K: Copy, V: Copy>(slots: &[Slot<K, V>]) -> usize
+pub(crate) fn count_free<K: Copy, V: Copy>(slots: &[Slot<K, V>]) -> usize
     ensures { λ r. ⌜ r ≡ free-slots (now (slots .entry)) ⌝ }
 {
     let mut n = 0;
@@ -54,7 +54,7 @@ pub fn count_free<K: Copy, V: Copy>(slots: &[Slot<K, V>]) -> usize
     n
 }
 
-pub fn look_in<K: Key, V: Copy>(slots: &[Slot<K, V>], key: K) -> Option<V>
+pub(crate) fn look_in<K: Key, V: Copy>(slots: &[Slot<K, V>], key: K) -> Option<V>
     ensures { λ r. ⌜ r ≡ looked rank (slots-mean rank (now (slots .entry))) key ⌝ }
 {
     match key_place(slots, key) {
@@ -80,17 +80,11 @@ fn lower_of<K: Key, V: Copy>(last: Option<K>, best: Option<(K, V)>, k: K, v: V) 
     }
     match best {
         None => Some((k, v)),
-        Some(e) => {
-            if k.below(e.0) {
-                Some((k, v))
-            } else {
-                Some(e)
-            }
-        }
+        Some(e) => { if k.below(e.0) { Some((k, v)) } else { Some(e) } }
     }
 }
 
-pub fn lowest_above<K: Key, V: Copy>(slots: &[Slot<K, V>], last: Option<K>) -> Option<(K, V)>
+pub(crate) fn lowest_above<K: Key, V: Copy>(slots: &[Slot<K, V>], last: Option<K>) -> Option<(K, V)>
     ensures { λ r. ⌜ r ≡ lowest rank last None (now (slots .entry)) ⌝ }
 {
     let mut best = None;
@@ -102,7 +96,11 @@ pub fn lowest_above<K: Key, V: Copy>(slots: &[Slot<K, V>], last: Option<K>) -> O
     best
 }
 
-pub fn take_in<K: Key, V: Value>(slots: &mut [Slot<K, V>], key: K, value: V) -> Result<(), StoreRefusal>
+pub(crate) fn take_in<K: Key, V: Value>(
+    slots: &mut [Slot<K, V>],
+    key: K,
+    value: V,
+) -> Result<(), StoreRefusal>
     ensures answer { λ r. ⌜ r ≡ answer (room rank (slots-mean rank (now (slots .entry))) key) ⌝ }
     ensures after { λ _. ⌜ slots-mean rank (now (slots .exit)) ≡ taken rank join raise (slots-mean rank (now (slots .entry))) key value ⌝ }
     ensures refused { λ r. ⌜ (r ≡ Err NoPlace → now (slots .exit) ≡ now (slots .entry)) ⌝ }
@@ -123,7 +121,7 @@ pub fn take_in<K: Key, V: Value>(slots: &mut [Slot<K, V>], key: K, value: V) -> 
     }
 }
 
-pub fn clear<K: Copy, V: Copy>(slots: &mut [Slot<K, V>])
+pub(crate) fn clear<K: Copy, V: Copy>(slots: &mut [Slot<K, V>])
     ensures { λ _. ⌜ now (slots .exit) ≡ replicate (length (now (slots .entry))) Free ⌝ }
 {
     for slot in slots.iter_mut() {

@@ -1,11 +1,11 @@
 ghost use mathlib.Core.Path.{_≡_};
-ghost use mathlib.Core.List.{[]};
-ghost use Prim.Native.Nat.{min};
+ghost use Prim.Native.Nat.{_≤_, min};
 ghost use lib.ListN.{length};
 ghost use denote.Ref.{name};
 ghost use Rattle.ratchet.specs.Ids.{id-number};
 ghost use Rattle.store.specs.Keys.{spot-number};
 ghost use Rattle.store.specs.Lasting.{by-name};
+ghost use Rattle.store.specs.Meaning.{empty};
 ghost use Rattle.store.specs.Slots.{slots-mean};
 use crate::keys::IdKey;
 use crate::keys::SpotKey;
@@ -65,23 +65,31 @@ pub impl<K: Key, V: Value> Store<K, V> for Table<'_, K, V> as TableStore {
 
 // Clears all slots, and makes a table of those in front, at most as many as the limit.
 fn table_over<'a, K: Key, V: Value>(slots: &'a mut [Slot<K, V>], limit: usize) -> Table<'a, K, V>
-    ensures { λ r. ⌜ slots-mean rank (now (r .slots)) ≡ record { entries = []; floor = 0; places = min (length (now (slots .entry))) limit } ⌝ }
+    ensures means { λ r. ⌜ slots-mean rank (now (r .slots)) ≡ empty (min (length (now (slots .entry))) limit) ⌝ }
+    ensures lent { λ r. ⌜ (length (now (slots .entry)) ≤ limit → name (r .slots) ≡ name (slots .entry)) ⌝ }
 {
     clear(slots);
-    let places = slots.len().min(limit);
-    Table { slots: &mut slots[0..places] }
+    if slots.len() <= limit {
+        Table { slots }
+    } else {
+        Table {
+            slots: &mut slots[0..limit],
+        }
+    }
 }
 
-// An empty store of what is held of sessions.
+// An empty store of what is held of sessions. Where no slot is left over, it lies in all the memory lent.
 pub fn slot_store<'a, P: Suite>(slots: &'a mut [Slot<Id, Holding<P>>]) -> Table<'a, Id, Holding<P>>
-    ensures { λ r. ⌜ slots-mean id-number (now (r .slots)) ≡ record { entries = []; floor = 0; places = min (length (now (slots .entry))) 4096 } ⌝ }
+    ensures means { λ r. ⌜ slots-mean id-number (now (r .slots)) ≡ empty (min (length (now (slots .entry))) 4096) ⌝ }
+    ensures lent { λ r. ⌜ (length (now (slots .entry)) ≤ 4096 → name (r .slots) ≡ name (slots .entry)) ⌝ }
 {
     table_over(slots, 4096)
 }
 
-// An empty table of sightings.
+// An empty table of sightings. Where no slot is left over, it lies in all the memory lent.
 pub fn sighting_table<'a>(slots: &'a mut [Slot<Spot, Sighting>]) -> Table<'a, Spot, Sighting>
-    ensures { λ r. ⌜ slots-mean spot-number (now (r .slots)) ≡ record { entries = []; floor = 0; places = min (length (now (slots .entry))) 65536 } ⌝ }
+    ensures means { λ r. ⌜ slots-mean spot-number (now (r .slots)) ≡ empty (min (length (now (slots .entry))) 65536) ⌝ }
+    ensures lent { λ r. ⌜ (length (now (slots .entry)) ≤ 65536 → name (r .slots) ≡ name (slots .entry)) ⌝ }
 {
     table_over(slots, 65_536)
 }

@@ -1,5 +1,5 @@
 use Prim.Native.Nat.{ℕ}
-use mathlib.Core.Path.{_≡_, sym}
+use mathlib.Core.Path.{_≡_}
 use mathlib.Core.Bool.{true}
 use native.Mathlib.Omega.{arith}
 use Rattle.store.proofs.Lookups.{next-less}
@@ -17,9 +17,10 @@ pub loop-e-less : need.loop-e-less
 loop-e-less g c = next-less (g .K·Key .rank) _ (c .loop-e .last) (c .in-Some .e) (c .in-Some .ensures tt .ascends) (c .in-Some .ensures tt .value)
 
 pub loop-e-again : need.loop-e-again
-loop-e-again g c =
-    ( left-next (g .K·Key .rank) (g .V·Value .join) (g .V·Value .raise) _ _ _ _ (c .loop-e .last) (c .in-Some .e) (c .in-Some .ensures tt .ascends) (c .in-Some .ensures tt .value) (c .take .ensures .after) (c .loop-e .inv .0)
-    , g .A·Store .lasts .on _ _ _ (c .loop-e .inv .1) (c .take .ensures .steady))
+loop-e-again g c = (
+  left-next (g .K·Key .rank) (g .V·Value .join) (g .V·Value .raise) _ _ _ _ (c .loop-e .last) (c .in-Some .e) (c .in-Some .ensures tt .ascends) (c .in-Some .ensures tt .value) (c .take .ensures .after) (c .loop-e .inv .0),
+  g .A·Store .lasts .on _ _ _ (c .loop-e .inv .1) (c .take .ensures .steady),
+)
 
 pub returns : need.returns
 returns g c =
@@ -29,5 +30,5 @@ returns g c =
       answer = rw room;
       after = left-end (g .K·Key .rank) (g .V·Value .join) (g .V·Value .raise) _ _ _ (c .loop-e .last) room (c .in-rest .ensures tt .value) (c .loop-e .inv .0);
       steady = c .loop-e .inv .1;
-      refused = λ no. absurd (let z : _≡_ {A = ℕ} 0 1 = cc in omega arith)
+      refused = λ no. absurd (let z : _≡_ {A = ℕ} 0 1 = cc in omega arith);
     }

@@ -10,8 +10,8 @@ pub loop-slot-again : need.loop-slot-again
 loop-slot-again g c =
     let at = step (c .args .slots .now) (c .loop-slot .slot-index) (c .slot-item .result) in
     elim (c .match-slot .came) [
-      in-Free w ↦ omega (arith, ap free-slots (at _ (c .loop-slot-test .taken) (c .slot-item .is) (w .in-Free .is)), w .n-is)
-    | in-rest w ↦ omega (arith, ap free-slots (at _ (c .loop-slot-test .taken) (c .slot-item .is) (w .in-rest .is)), w .n-is)
+      | in-Free w ↦ omega (arith, ap free-slots (at _ (c .loop-slot-test .taken) (c .slot-item .is) (w .in-Free .is)), w .n-is)
+      | in-rest w ↦ omega (arith, ap free-slots (at _ (c .loop-slot-test .taken) (c .slot-item .is) (w .in-rest .is)), w .n-is)
     ]
 
 pub returns : need.returns

@@ -15,8 +15,8 @@ loop-i-again g c =
     let test = has-key (g .K·Key .rank) (c .args .key) in
     let on = sought-more test (c .args .slots .now) (c .loop-i .i) (c .index-slots-i .result) (c .loop-i-test .taken) (c .index-slots-i .is) in
     elim (c .match-slot .came) [
-      in-Held·else-same w ↦ on (ap test (w .in-Held .is) ∙ sym (w .if-same .ensures tt)) (c .loop-i .inv)
-    | in-rest w ↦ on (ap test (w .in-rest .is)) (c .loop-i .inv)
+      | in-Held·else-same w ↦ on (ap test (w .in-Held .is) ∙ sym (w .if-same .ensures tt)) (c .loop-i .inv)
+      | in-rest w ↦ on (ap test (w .in-rest .is)) (c .loop-i .inv)
     ]
 
 pub returns : need.returns

@@ -14,8 +14,8 @@ loop-slot-again g c =
     let at = step (c .args .slots .now) i (c .slot-item .result) in
     let rest = drop (i + 1) (c .args .slots .now) in
     elim (c .match-slot .came) [
-      in-Held w ↦ ap (λ b. lowest (g .K·Key .rank) (c .args .last) b rest) (w .best-is ∙ w .lower-of-best .ensures) ∙ sym (ap left (at _ (c .loop-slot-test .taken) (c .slot-item .is) (w .in-Held .is))) ∙ c .loop-slot .inv
-    | in-rest w ↦ ap (λ b. lowest (g .K·Key .rank) (c .args .last) b rest) (w .best-is) ∙ sym (ap left (at _ (c .loop-slot-test .taken) (c .slot-item .is) (w .in-rest .is))) ∙ c .loop-slot .inv
+      | in-Held w ↦ ap (λ b. lowest (g .K·Key .rank) (c .args .last) b rest) (w .best-is ∙ w .lower-of-best .ensures) ∙ sym (ap left (at _ (c .loop-slot-test .taken) (c .slot-item .is) (w .in-Held .is))) ∙ c .loop-slot .inv
+      | in-rest w ↦ ap (λ b. lowest (g .K·Key .rank) (c .args .last) b rest) (w .best-is) ∙ sym (ap left (at _ (c .loop-slot-test .taken) (c .slot-item .is) (w .in-rest .is))) ∙ c .loop-slot .inv
     ]
 
 pub returns : need.returns

@@ -9,5 +9,5 @@ returns g c =
     let m = g .T·Store .means (c .args .self .now .below) .entries in
     record {
       value = c .raised-entry .ensures ∙ ap (mapped (λ e. (e .0, up (e .1)))) (c .next .ensures .value) ∙ sym (each-first (g .K·Key .rank) up m (c .args .last .now));
-      ascends = each-rising (g .K·Key .rank) up 0 m (c .next .ensures .ascends)
+      ascends = each-rising (g .K·Key .rank) up 0 m (c .next .ensures .ascends);
     }

@@ -16,8 +16,7 @@ returns g c =
     record {
       answer = c .take .ensures .answer ∙ ap answer (sym (floored-room rank join raise laws f m (c .args .key)));
       after = ap (floored raise f) below ∙ floored-taken rank join raise laws f m (c .args .key) (c .args .value);
-      steady = c .take .ensures .steady;
+      steady = (refl, c .take .ensures .steady);
       refused = c .take .ensures .refused;
       below = below;
-      floor = refl
     }
