@@ -1,5 +1,5 @@
 -- Reading the fields of a message.
-use Prim.Native.Nat.{ℕ, zero, suc, _+_, _-_, _<_, _≤_}
+use Prim.Native.Nat.{ℕ, zero, suc, _+_, _-_, _^_, _<_, _≤_}
 use mathlib.Core.Path.{_≡_, refl, sym, ap, _∙_}
 use mathlib.Core.Bool.{true, false, cond}
 use mathlib.Core.List.{List, [], _∷_, _++_}
@@ -7,16 +7,16 @@ use mathlib.Core.Logic.{_⊎_, inl, inr}
 use native.Mathlib.Omega.{arith}
 use lib.Dec.{eqb}
 use lib.ListN.{length, getD, take, drop}
-use Rattle.std.proofs.shelf.Lists.{take-rest, length-drop}
-use Rattle.std.proofs.shelf.Tests.{cases-eq, eq-eqb, ne-eqb, cond-true, cond-false, and-parts, leb-true}
+use Rattle.std.proofs.shelf.Lists.{append-assoc, drop-at, length-append, length-drop, take-rest}
+use Rattle.std.proofs.shelf.Tests.{cases-eq, eq-eqb, ne-eqb, cond-true, cond-false, and-parts, and-from, leb-true, le-leb}
 use Rattle.std.specs.declared.option.Option.{Option}
 use Rattle.std.specs.declared.option.Option.the-variants.{Some, None}
 use Rattle.std.specs.declared.result.Result.the-variants.{Ok, Err}
 use Rattle.ratchet.specs.Suite.{Meaning}
 use Rattle.message.specs.declared.frame.FrameFault.the-variants.{Start, Cipher, Length}
-use Rattle.message.specs.Varint.{read-varint}
-use Rattle.message.specs.Frame.{keyed, starts, sized, cipher-at, indexed, framed}
-use Rattle.message.proofs.Varints.{varint-fits}
+use Rattle.message.specs.Varint.{varint, read-varint}
+use Rattle.message.specs.Frame.{head, message-bytes, keyed, starts, sized, cipher-at, indexed, framed}
+use Rattle.message.proofs.Varints.{varint-fits, groups-size, varint-laws}
 
 -- behind the right key the varint is read
 pub keyed-goes : (key : ℕ) (bs : List ℕ) → 0 < length bs → getD bs 0 0 ≡ key → keyed key bs ≡ read-varint (take (length bs - 1) (drop 1 bs))
@@ -66,3 +66,31 @@ module _ {P : Type 0} (m : Meaning P) (bs : List ℕ) where
     pub framed-is : (o : Option (ℕ × ℕ)) → o ≡ keyed 8 (take (length bs - 1) (drop 1 bs)) → framed m bs ≡ indexed m bs o
     unfolding framed
     framed-is o e = cond-true _ _ _ (sym s) ∙ ap (indexed m bs) (keyed-rest 8 1 bs o e)
+
+module _ {P : Type 0} (m : Meaning P) (index : ℕ) (cipher tag : List ℕ) where
+  flat : message-bytes m index cipher tag ≡ m .message-byte ∷ (8 ∷ (varint index ++ (18 ∷ (varint (length cipher) ++ (cipher ++ tag)))))
+  unfolding head
+  flat = simp append-assoc
+
+  pub length-head : length (head m index (length cipher)) ≡ 2 + length (varint index) + 1 + length (varint (length cipher))
+  unfolding head
+  length-head = simp length-append (omega arith)
+
+  pub frame-law : index < 2 ^ 32 → m .allowed (length cipher) ≡ true → length cipher ≤ 4112 → length tag ≡ 8
+      → framed m (message-bytes m index cipher tag) ≡ Ok (record { index = index; from = length (head m index (length cipher)); size = length cipher })
+  unfolding framed
+  frame-law small allowed short eight =
+      let n = length cipher in
+      let k = length (varint index) in
+      let l = length (varint n) in
+      let rest = varint n ++ (cipher ++ tag) in
+      let bs = m .message-byte ∷ (8 ∷ (varint index ++ (18 ∷ rest))) in
+      let size : length bs ≡ 2 + k + 1 + l + n + 8 = simp length-append (omega arith) in
+      let kb = groups-size 4 4 index (omega arith) in
+      let lb = groups-size 4 1 n (omega arith) in
+      let starts-so : starts m bs ≡ true = and-from _ _ (and-from _ _ (le-leb 1 (length bs) (omega arith)) (le-leb (length bs) 4130 (omega arith))) (eq-eqb (m .message-byte) (m .message-byte) refl) in
+      let behind : drop (2 + k) bs ≡ 18 ∷ rest = drop-at (m .message-byte ∷ (8 ∷ varint index)) (18 ∷ rest) (2 + k) (omega arith) in
+      let second : keyed 18 (drop (2 + k) bs) ≡ Some (n, l) = ap (keyed 18) behind ∙ varint-laws .back n (cipher ++ tag) (omega arith) in
+      ap (framed m) flat ∙ cond-true _ _ _ starts-so ∙ ap (indexed m bs) (varint-laws .back index (18 ∷ rest) small)
+      ∙ ap (sized m bs index (2 + k)) second ∙ cond-true _ _ _ (eq-eqb _ _ size) ∙ cond-true _ _ _ allowed
+      ∙ ap (λ (x : ℕ). Ok (record { index = index; from = x; size = n })) (sym length-head)

@@ -1,2 +1,4 @@
 pub mod Frames
+pub mod Seals
+pub mod Senders
 pub mod Varints

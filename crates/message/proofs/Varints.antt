@@ -10,12 +10,13 @@ use native.Mathlib.Omega.{arith}
 use lib.Dec.{eqb, ltb}
 use lib.ListN.{length, getD, set, take, drop}
 use lib.Pow.{pow-add}
-use Rattle.std.proofs.shelf.Lists.{append-assoc, at-drop-more, drop-drop, drop-set-lt, take-more-set}
+use Rattle.std.proofs.shelf.Lists.{append-assoc, at-drop-more, drop-drop, drop-set-lt, take-append-drop, take-more-set}
 use Rattle.std.proofs.shelf.Tests.{lt-ltb, le-ltb, eq-eqb, ne-eqb, cases-lt, cases-eq, and-from, and-left, and-right, cond-true, cond-false, cond-both}
 use Rattle.std.specs.shelf.Lists.{All}
 use Rattle.std.specs.declared.option.Option.{Option}
 use Rattle.std.specs.declared.option.Option.the-variants.{Some, None}
 use Rattle.ratchet.specs.Bytes.{Byte}
+use Rattle.copy_bytes.specs.Placed.{Put}
 use Rattle.message.specs.Varint.{groups, varint, beneath, read-groups, within, read-varint, Varint-laws}
 
 -- n bytes were read, of value v; the number that follows counts u times
@@ -242,12 +243,32 @@ written-more v at n k rest end b old new w h fits eb ek =
       back = drop-set-lt (end + 1) new end b (omega arith) ∙ drop-further end new old (w .back);
     })
 
-pub written-all : (v at n rest end b : ℕ) (old new : List ℕ) → Written v at n rest end old new → rest < 128 → end < length new → b ≡ rest
-    → (end + 1 ≡ at + length (varint v)) × (take (end + 1) (set new end b) ≡ take at old ++ varint v) × (drop (end + 1) (set new end b) ≡ drop (end + 1) old)
-written-all v at n rest end b old new w h fits eb =
+pub written-all : (v at n rest end b : ℕ) (old new : List ℕ) → Written v at n rest end old new → rest < 128 → end < length new → length new ≡ length old → b ≡ rest
+    → Put at (varint v) old (end + 1) (set new end b)
+written-all v at n rest end b old new w h fits kept eb =
     let last = groups-last n rest h in
-    let s = w .size in (
-      omega (arith, ap length last),
-      take-more-set new end b fits ∙ ap (λ (x : ℕ). take end new ++ (x ∷ [])) eb ∙ ap (λ xs. take end new ++ xs) (sym last) ∙ w .front,
-      drop-set-lt (end + 1) new end b (omega arith) ∙ drop-further end new old (w .back),
-    )
+    let s = w .size in
+    let size : end + 1 ≡ at + length (varint v) = omega (arith, ap length last) in
+    let front : take (end + 1) (set new end b) ≡ take at old ++ varint v =
+    take-more-set new end b fits ∙ ap (λ (x : ℕ). take end new ++ (x ∷ [])) eb ∙ ap (λ xs. take end new ++ xs) (sym last) ∙ w .front in
+    let back : drop (end + 1) (set new end b) ≡ drop (end + 1) old = drop-set-lt (end + 1) new end b (omega arith) ∙ drop-further end new old (w .back) in
+    record {
+      within = omega arith;
+      size = size;
+      holds =
+          sym (take-append-drop (end + 1) (set new end b)) ∙ (λ i. front i ++ back i) ∙ append-assoc (take at old) (varint v) (drop (end + 1) old)
+          ∙ ap (λ (k : ℕ). take at old ++ (varint v ++ drop k old)) size;
+    }
+
+-- a number below 128^k has at most k groups
+pub groups-size : (n k v : ℕ) → v < 128 ^ (k + 1) → length (groups n v) ≤ k + 1
+unfolding groups
+groups-size n zero v h = omega (arith, ap length (groups-last n v (omega arith)))
+groups-size zero (suc k) v h = omega (arith, ap length (groups-zero v)) where
+  groups-zero : (v : ℕ) → groups zero v ≡ v ∷ []
+  groups-zero v = refl
+groups-size (suc n) (suc k) v h =
+    elim (cases-lt v 128) [
+      | inl low ↦ omega (arith, ap length (groups-last (suc n) v low))
+      | inr high ↦ (let e = power k in omega (arith, ap length (groups-more n v high), groups-size n k (v / 128) (omega arith)))
+    ]

@@ -19,9 +19,12 @@ use Rattle.message.specs.Varint.{varint, read-varint}
 unfoldable pub head : {P : Type 0} → Meaning P → ℕ → ℕ → List ℕ
 head m index n = (m .message-byte ∷ (8 ∷ varint index)) ++ (18 ∷ varint n)
 
--- a message; its tag is that of all bytes before it
+-- all that the tag is of
+abbrev pub body : {P : Type 0} → Meaning P → ℕ → List ℕ → List ℕ
+body m index cipher = head m index (length cipher) ++ cipher
+
 abbrev pub message-bytes : {P : Type 0} → Meaning P → ℕ → List ℕ → List ℕ → List ℕ
-message-bytes m index cipher tag = (head m index (length cipher) ++ cipher) ++ tag
+message-bytes m index cipher tag = body m index cipher ++ tag
 
 -- a key byte with a lawful varint behind it: the number, and how many bytes it takes
 abbrev pub keyed : ℕ → List ℕ → Option (ℕ × ℕ)
@@ -49,3 +52,9 @@ indexed m bs (Some (index, k)) = cipher-at m bs index (2 + k)
 -- the index of a message and where its cipher stands, or the first that is wrong of the start, the index, the cipher and its length
 unfoldable pub framed : {P : Type 0} → Meaning P → List ℕ → Result Frame FrameFault
 framed m bs = cond (starts m bs) (indexed m bs (keyed 8 (drop 1 bs))) (Err Start)
+
+-- a message is read as it was laid out
+abbrev pub Frame-law : {P : Type 0} → Meaning P → Type 0
+Frame-law m =
+    (index : ℕ) (cipher tag : List ℕ) → index < 2 ^ 32 → m .allowed (length cipher) ≡ true → length cipher ≤ 4112 → length tag ≡ 8
+    → framed m (message-bytes m index cipher tag) ≡ Ok (record { index = index; from = length (head m index (length cipher)); size = length cipher })

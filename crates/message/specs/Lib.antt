@@ -1,2 +1,4 @@
 pub mod Frame
+pub mod Seal
+pub mod Sender
 pub mod Varint

@@ -1,7 +1,7 @@
 ghost use mathlib.Core.Path.{_≡_};
-ghost use mathlib.Core.List.{_++_};
 ghost use Prim.Native.Nat.{ℕ, _+_, _≤_};
-ghost use lib.ListN.{length, take, drop};
+ghost use lib.ListN.{length};
+ghost use Rattle.copy_bytes.specs.Placed.{Put};
 ghost use Rattle.message.specs.Varint.{varint, read-varint, Varint-laws};
 
 // The number at the front of some bytes, and how many bytes it takes; none where it is cut off, not in its
@@ -38,9 +38,7 @@ pub fn read_varint(bytes: &[u8]) -> Option<(u32, usize)>
 // Writes the shortest form of a number at a place, and answers the place behind it.
 pub(crate) fn put_varint(v: u32, out: &mut [u8], at: usize) -> usize
     requires { ⌜ at + length (varint v) ≤ length (now out) ⌝ }
-    ensures next { λ r. ⌜ r ≡ at + length (varint v) ⌝ }
-    ensures front { λ r. ⌜ take r (now (out .exit)) ≡ take at (now (out .entry)) ++ varint v ⌝ }
-    ensures back { λ r. ⌜ drop r (now (out .exit)) ≡ drop r (now (out .entry)) ⌝ }
+    ensures { λ r. ⌜ Put at (varint v) (now (out .entry)) r (now (out .exit)) ⌝ }
 {
     let mut rest = v;
     let mut end = at;

@@ -16,7 +16,5 @@ index-out-end-2 c = omega (arith, written-room (c .loop-rest .inv), c .pre, c .l
 
 pub returns : need.returns
 returns c =
-    let w =
     written-all (c .args .v) (c .args .at) _ (c .loop-rest .rest) (c .loop-rest .end) _ (c .args .out .now) (c .loop-rest .out)
-    (c .loop-rest .inv) (c .loop-rest-test .left) (omega (arith, written-room (c .loop-rest .inv), c .pre, c .loop-rest .kept .out)) refl in
-    record { next = w .0; front = w .1; back = w .2 }
+    (c .loop-rest .inv) (c .loop-rest-test .left) (omega (arith, written-room (c .loop-rest .inv), c .pre, c .loop-rest .kept .out)) (c .loop-rest .kept .out) refl
