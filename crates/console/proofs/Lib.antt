@@ -2,3 +2,4 @@ pub mod Added
 pub mod Cuts
 pub mod Hex
 pub mod Numbers
+pub mod ToGo
