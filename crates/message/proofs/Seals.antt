@@ -1,15 +1,18 @@
 -- The pieces of a message, one behind another.
 use Prim.Native.Nat.{ℕ, _+_, _-_, _^_, _<_, _≤_}
 use mathlib.Core.Path.{_≡_, refl, sym, ap, _∙_}
+use mathlib.Core.Bool.{true}
 use mathlib.Core.List.{List, [], _∷_, _++_, append-assoc}
+use mathlib.Core.Logic.{_⊎_, inl, inr}
 use native.Mathlib.Omega.{arith}
 use lib.ListN.{length, take, drop}
-use Rattle.std.specs.declared.result.Result.the-variants.{Ok}
+use Rattle.std.specs.declared.result.Result.the-variants.{Ok, Err}
 use Rattle.std.proofs.shelf.Lists.{take-at, length-append}
-use Rattle.std.proofs.shelf.Tests.{le-leb, cond-true}
+use Rattle.std.proofs.shelf.Tests.{cases-bool, le-leb, cond-true, cond-false}
 use Rattle.ratchet.specs.declared.copies.SessionCopy.{SessionCopy}
 use Rattle.ratchet.specs.Bytes.{laid}
 use Rattle.ratchet.specs.Suite.{Meaning, Lawful, parts}
+use Rattle.copy_bytes.specs.declared.output.SpaceRefusal.the-variants.{TooSmall}
 use Rattle.copy_bytes.specs.Output.{fits, answered, filled}
 use Rattle.copy_bytes.specs.Placed.{Put}
 use Rattle.copy_bytes.proofs.Places.{put-join, put-laid}
@@ -29,6 +32,14 @@ put-answered {r} {xs} {old} p =
     let size : r ≡ length xs = omega arith in
     let yes = le-leb (length xs) (length old) (omega arith) in
     (ap Ok size ∙ sym (cond-true (fits xs old) _ _ yes), put-laid p ∙ sym (cond-true (fits xs old) _ _ yes))
+
+-- an output that was filled had the space
+pub answered-fits : (xs out : List ℕ) (size : ℕ) → Ok size ≡ answered xs out → fits xs out ≡ true
+answered-fits xs out size e =
+    elim (cases-bool (fits xs out)) [
+      | inl t ↦ t
+      | inr t ↦ (let f = e ∙ cond-false (fits xs out) (Ok (length xs)) (Err TooSmall) t in let z : _≡_ {A = ℕ} 0 1 = cc in absurd (omega arith))
+    ]
 
 -- the front of an output that bytes were laid over
 pub laid-front : (k : ℕ) (xs old new : List ℕ) → k ≡ length xs → new ≡ laid xs old → take k new ≡ xs

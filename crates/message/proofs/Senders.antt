@@ -19,12 +19,11 @@ use Rattle.ratchet.specs.Ratchet.{step, steps}
 use Rattle.ratchet.specs.Advance.{stepped}
 use Rattle.copy_bytes.specs.declared.named.CopyFault.{CopyFault}
 use Rattle.copy_bytes.specs.declared.named.CopyFault.the-variants.{Length}
-use Rattle.copy_bytes.specs.declared.output.SpaceRefusal.{SpaceRefusal}
-use Rattle.copy_bytes.specs.declared.output.SpaceRefusal.the-variants.{TooSmall}
 use Rattle.copy_bytes.specs.CopyBytes.{copy-of, read-start}
 use Rattle.copy_bytes.specs.Output.{fits, answered, filled}
 use Rattle.message.specs.declared.sender.Sender.{Sender}
 use Rattle.message.specs.Seal.{sealed}
+use Rattle.message.proofs.Seals.{answered-fits}
 use Rattle.message.specs.Sender.{from-start, Kept, new-sender, seal-size, seal-answer, seal-output, moved, after-seal}
 
 module _ {P : Type 0} (m : Meaning P) where
@@ -35,8 +34,8 @@ module _ {P : Type 0} (m : Meaning P) where
         | inl t ↦ (let f = e ∙ cond-true _ _ _ t in let g : c ≡ copy-of m 0 0 bs = cc in ap (λ x. x .index) g ∙ origin bs)
         | inr t ↦ (let f = e ∙ cond-false _ (Ok (copy-of m 0 0 bs)) (Err Length) t in let z : _≡_ {A = ℕ} 0 1 = cc in absurd (omega arith))
       ] where
-    origin : (bs : List ℕ) → copy-of m 0 0 bs .index ≡ 0
-    origin bs = refl
+        origin : (bs : List ℕ) → copy-of m 0 0 bs .index ≡ 0
+        origin bs = refl
 
   pub new-kept : (id : Id) (bs : List ℕ) (c : SessionCopy P) → Ok c ≡ read-start m bs → Kept m (record { id = id; start = c; current = c; spent = false })
   new-kept id bs c e = record {
@@ -63,13 +62,6 @@ module _ {P : Type 0} (m : Meaning P) where
         by-steps = is ∙ ap (step (m .hash)) (k .by-steps) ∙ ap (λ (j : ℕ). steps (m .hash) j (s .start)) n;
         last = λ f. absurd (both-ways (s .spent) unspent f);
       }
-
-  answered-fits : (xs out : List ℕ) (size : ℕ) → Ok size ≡ answered xs out → fits xs out ≡ true
-  answered-fits xs out size e =
-      elim (cases-bool (fits xs out)) [
-        | inl t ↦ t
-        | inr t ↦ (let f = e ∙ cond-false (fits xs out) (Ok (length xs)) (Err TooSmall) t in let z : _≡_ {A = ℕ} 0 1 = cc in absurd (omega arith))
-      ]
 
   -- a seal that goes through, with another copy behind it
   pub seal-goes : (s : Sender P) (text out new : List ℕ) (size : ℕ) (next : SessionCopy P) → length text ≤ 4096 → s .spent ≡ false

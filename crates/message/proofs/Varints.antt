@@ -183,6 +183,20 @@ read-fits (b ∷ bs) v k e =
       | inr high ↦ (let (w, j, is, ne, ev, ek) = above (b - 128) v k (read-groups bs) (sym (read-more b bs high) ∙ e) in omega (arith, read-fits bs w j is, ek))
     ]
 
+-- a number has at least one byte, and two from 128 on
+read-least : (bs : List ℕ) (v k : ℕ) → read-groups bs ≡ Some (v, k) → (1 ≤ k) × (128 ≤ v → 2 ≤ k)
+unfolding read-groups
+read-least [] v k e = let z : _≡_ {A = ℕ} 0 1 = cc in absurd (omega arith)
+read-least (b ∷ bs) v k e =
+    elim (cases-lt b 128) [
+      | inl low ↦ (let g = same-pair b 1 v k (sym (last-is b bs low) ∙ e) in (omega (arith, g .1), λ h. omega (arith, g .0)))
+      | inr high ↦ (let (w, j, is, ne, ev, ek) = above (b - 128) v k (read-groups bs) (sym (read-more b bs high) ∙ e) in
+          let l = read-least bs w j is .0 in (omega (arith, ek), λ h. omega (arith, ek)))
+    ]
+
+pub varint-least : (bs : List ℕ) (v k : ℕ) → read-varint bs ≡ Some (v, k) → (1 ≤ k) × (128 ≤ v → 2 ≤ k)
+varint-least bs v k e = read-least bs v k (within-some (read-groups bs) v k e .0)
+
 pub varint-fits : (bs : List ℕ) (v k : ℕ) → read-varint bs ≡ Some (v, k) → k ≤ length bs
 varint-fits bs v k e = read-fits bs v k (within-some (read-groups bs) v k e .0)
 

@@ -26,6 +26,10 @@ body m index cipher = head m index (length cipher) ++ cipher
 abbrev pub message-bytes : {P : Type 0} → Meaning P → ℕ → List ℕ → List ℕ → List ℕ
 message-bytes m index cipher tag = body m index cipher ++ tag
 
+-- where the cipher of such a message stands
+abbrev pub frame-of : {P : Type 0} → Meaning P → ℕ → List ℕ → Frame
+frame-of m index cipher = record { index = index; from = length (head m index (length cipher)); size = length cipher }
+
 -- a key byte with a lawful varint behind it: the number, and how many bytes it takes
 abbrev pub keyed : ℕ → List ℕ → Option (ℕ × ℕ)
 keyed key [] = None
@@ -57,4 +61,4 @@ framed m bs = cond (starts m bs) (indexed m bs (keyed 8 (drop 1 bs))) (Err Start
 abbrev pub Frame-law : {P : Type 0} → Meaning P → Type 0
 Frame-law m =
     (index : ℕ) (cipher tag : List ℕ) → index < 2 ^ 32 → m .allowed (length cipher) ≡ true → length cipher ≤ 4112 → length tag ≡ 8
-    → framed m (message-bytes m index cipher tag) ≡ Ok (record { index = index; from = length (head m index (length cipher)); size = length cipher })
+    → framed m (message-bytes m index cipher tag) ≡ Ok (frame-of m index cipher)

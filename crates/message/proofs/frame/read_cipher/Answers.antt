@@ -23,9 +23,9 @@ returns-then-message-from g c =
 pub returns-then-allows : need.returns-then-allows
 returns-then-allows g c =
     sym (right-size (g .P·Suite .suite) (c .args .message .now) (c .args .index) (c .args .at) (c .in-Some .n) (c .in-Some .k) (c .in-Some .ensures tt) (c .if-message-from .left)
-      ∙ cond-true _ _ _ (sym (c .if-allows .ensures tt)))
+    ∙ cond-true _ _ _ (sym (c .if-allows .ensures tt)))
 
 pub returns-else-allows : need.returns-else-allows
 returns-else-allows g c =
     sym (right-size (g .P·Suite .suite) (c .args .message .now) (c .args .index) (c .args .at) (c .in-Some .n) (c .in-Some .k) (c .in-Some .ensures tt) (c .if-message-from .left)
-      ∙ cond-false _ _ _ (sym (c .if-allows .ensures tt)))
+    ∙ cond-false _ _ _ (sym (c .if-allows .ensures tt)))

@@ -49,8 +49,8 @@ loop-at-again c =
       unit-more k u (c .loop-at .inv .1),
       omega (arith, mul-le-mul {n₁ = u} {m₁ = d} {n₂ = u} {m₂ = 127} (omega arith) d≤, c .loop-at .inv .2),
       ap (λ (x : ℕ). after (k + 1) (v + u * x) (u * 128) (read-groups (drop (k + 1) xs))) (c .from-in-loop-at .ensures)
-      ∙ sym (at-more k v u b (drop (k + 1) xs) (c .if-b-lt128 .left))
-      ∙ sym (at-drop-more (λ ys. after k v u (read-groups ys)) xs k 0 (c .if-at-bytes .left)) ∙ c .loop-at .inv .3,
+          ∙ sym (at-more k v u b (drop (k + 1) xs) (c .if-b-lt128 .left))
+          ∙ sym (at-drop-more (λ ys. after k v u (read-groups ys)) xs k 0 (c .if-at-bytes .left)) ∙ c .loop-at .inv .3,
     )
 
 pub returns-then-v-lt4294967296 : need.returns-then-v-lt4294967296
@@ -72,8 +72,8 @@ returns-then-at-ge5 c =
     let u = c .loop-at .unit in
     let xs = c .args .bytes .now in
     sym (ap within (sym (c .loop-at .inv .3)) ∙ ⊎-elim
-      (λ h. past k v u (read-groups (drop k xs)) (omega arith) (omega (arith, unit-large k u (c .loop-at .inv .1) h)))
-      (λ p. ap within (at-drop-all (λ ys. after k v u (read-groups ys)) xs k (p .1) ∙ at-end k v u)) (c .then-at-ge5 .either))
+    (λ h. past k v u (read-groups (drop k xs)) (omega arith) (omega (arith, unit-large k u (c .loop-at .inv .1) h)))
+    (λ p. ap within (at-drop-all (λ ys. after k v u (read-groups ys)) xs k (p .1) ∙ at-end k v u)) (c .then-at-ge5 .either))
 
 pub returns-then-at-gt0 : need.returns-then-at-gt0
 returns-then-at-gt0 c =
@@ -82,4 +82,4 @@ returns-then-at-gt0 c =
     let u = c .loop-at .unit in
     let xs = c .args .bytes .now in
     sym (ap within (sym (c .loop-at .inv .3) ∙ at-drop-more (λ ys. after k v u (read-groups ys)) xs k 0 (c .if-at-bytes .left)
-      ∙ at-zero k v u (getD xs k 0) (drop (k + 1) xs) (c .if-b-eq0 .taken) (c .if-at-gt0 .taken)))
+    ∙ at-zero k v u (getD xs k 0) (drop (k + 1) xs) (c .if-b-eq0 .taken) (c .if-at-gt0 .taken)))
