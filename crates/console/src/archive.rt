@@ -19,6 +19,7 @@ use copy_bytes::reading::read_copy;
 use copy_bytes::writing::write_copy;
 use floors::taking::take_bytes;
 use message::sender::Sender;
+use opening::open::open;
 use ratchet::advance::advance;
 use ratchet::copies::Holding;
 use ratchet::ids::Id;
@@ -66,6 +67,18 @@ fn next<P: Suite, S: Store<Id, Holding<P>>>(store: &S, last: Option<Id>, desk: &
             add_holding(&mut desk.answers, e.1)
         }
         None => add_word(&mut desk.answers, b"none"),
+    }
+}
+
+fn open_message<P: Suite, S: Store<Id, Holding<P>>>(store: &S, id: Id, message: &[u8], desk: &mut Desk) -> Result<(), AllocError> {
+    append(&mut desk.answers, b"open")?;
+    match open(store, id, message, desk.offered()) {
+        Ok(opened) => {
+            add_number(&mut desk.answers, u64::from(opened.index))?;
+            add_number(&mut desk.answers, u64::from(opened.hashes))?;
+            add_bytes(&mut desk.answers, front(&desk.output, opened.size))
+        }
+        Err(refusal) => add_refusal(&mut desk.answers, refusal as u8),
     }
 }
 
@@ -144,7 +157,7 @@ pub(crate) impl<P: Suite, S: Store<Id, Holding<P>>> Serves for Archive<S, P> as 
             Call::Dispute(id) => dispute(&mut self.store, id, desk)?,
             Call::Look(id) => look(&self.store, id, desk)?,
             Call::Next(last) => next(&self.store, last, desk)?,
-            Call::Open(_, _) => return Err(LineFault::BadLine),
+            Call::Open(id, message) => open_message(&self.store, id, &message, desk)?,
             Call::Free => free(&self.store, desk)?,
             Call::Floor => floor(&self.store, desk)?,
             Call::Advance(copy, target) => advance_bytes::<P>(&copy, target, desk)?,
