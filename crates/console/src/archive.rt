@@ -35,7 +35,11 @@ pub(crate) struct Archive<S, P> {
     pub(crate) sender: Option<Sender<P>>,
 }
 
-fn take<P: Suite, S: Store<Id, Holding<P>>>(store: &mut S, copy: &[u8], desk: &mut Desk) -> Result<(), AllocError> {
+fn take<P: Suite, S: Store<Id, Holding<P>>>(
+    store: &mut S,
+    copy: &[u8],
+    desk: &mut Desk,
+) -> Result<(), AllocError> {
     append(&mut desk.answers, b"take")?;
     match take_bytes(store, copy) {
         Ok(()) => Ok(()),
@@ -43,7 +47,11 @@ fn take<P: Suite, S: Store<Id, Holding<P>>>(store: &mut S, copy: &[u8], desk: &m
     }
 }
 
-fn dispute<P: Suite, S: Store<Id, Holding<P>>>(store: &mut S, id: Id, desk: &mut Desk) -> Result<(), AllocError> {
+fn dispute<P: Suite, S: Store<Id, Holding<P>>>(
+    store: &mut S,
+    id: Id,
+    desk: &mut Desk,
+) -> Result<(), AllocError> {
     append(&mut desk.answers, b"dispute")?;
     match store.take(id, Holding::Disputed) {
         Ok(()) => Ok(()),
@@ -51,7 +59,11 @@ fn dispute<P: Suite, S: Store<Id, Holding<P>>>(store: &mut S, id: Id, desk: &mut
     }
 }
 
-fn look<P: Suite, S: Store<Id, Holding<P>>>(store: &S, id: Id, desk: &mut Desk) -> Result<(), AllocError> {
+fn look<P: Suite, S: Store<Id, Holding<P>>>(
+    store: &S,
+    id: Id,
+    desk: &mut Desk,
+) -> Result<(), AllocError> {
     append(&mut desk.answers, b"look")?;
     match store.look(id) {
         Some(holding) => add_holding(&mut desk.answers, holding),
@@ -59,7 +71,11 @@ fn look<P: Suite, S: Store<Id, Holding<P>>>(store: &S, id: Id, desk: &mut Desk) 
     }
 }
 
-fn next<P: Suite, S: Store<Id, Holding<P>>>(store: &S, last: Option<Id>, desk: &mut Desk) -> Result<(), AllocError> {
+fn next<P: Suite, S: Store<Id, Holding<P>>>(
+    store: &S,
+    last: Option<Id>,
+    desk: &mut Desk,
+) -> Result<(), AllocError> {
     append(&mut desk.answers, b"next")?;
     match store.next(&last) {
         Some(e) => {
@@ -70,7 +86,12 @@ fn next<P: Suite, S: Store<Id, Holding<P>>>(store: &S, last: Option<Id>, desk: &
     }
 }
 
-fn open_message<P: Suite, S: Store<Id, Holding<P>>>(store: &S, id: Id, message: &[u8], desk: &mut Desk) -> Result<(), AllocError> {
+fn open_message<P: Suite, S: Store<Id, Holding<P>>>(
+    store: &S,
+    id: Id,
+    message: &[u8],
+    desk: &mut Desk,
+) -> Result<(), AllocError> {
     append(&mut desk.answers, b"open")?;
     match open(store, id, message, desk.offered()) {
         Ok(opened) => {
@@ -104,14 +125,22 @@ fn advance_bytes<P: Suite>(bytes: &[u8], target: u32, desk: &mut Desk) -> Result
         Err(refusal) => return add_refusal(&mut desk.answers, refusal as u8),
     };
     add_number(&mut desk.answers, u64::from(there.hashes))?;
-    let moved = NamedCopy { id: named.id, copy: there.copy };
+    let moved = NamedCopy {
+        id: named.id,
+        copy: there.copy,
+    };
     match write_copy(Version::Export, &moved, &mut desk.output) {
         Ok(n) => add_bytes(&mut desk.answers, front(&desk.output, n)),
         Err(refusal) => add_refusal(&mut desk.answers, refusal as u8),
     }
 }
 
-fn make_sender<P: Suite>(sender: &mut Option<Sender<P>>, id: Id, start: &[u8], desk: &mut Desk) -> Result<(), AllocError> {
+fn make_sender<P: Suite>(
+    sender: &mut Option<Sender<P>>,
+    id: Id,
+    start: &[u8],
+    desk: &mut Desk,
+) -> Result<(), AllocError> {
     append(&mut desk.answers, b"sender")?;
     match Sender::new(id, start) {
         Ok(made) => {
@@ -123,7 +152,11 @@ fn make_sender<P: Suite>(sender: &mut Option<Sender<P>>, id: Id, start: &[u8], d
     }
 }
 
-fn seal<P: Suite>(sender: &mut Option<Sender<P>>, text: &[u8], desk: &mut Desk) -> Result<(), LineFault> {
+fn seal<P: Suite>(
+    sender: &mut Option<Sender<P>>,
+    text: &[u8],
+    desk: &mut Desk,
+) -> Result<(), LineFault> {
     let Some(sender) = sender else {
         return Err(LineFault::BadLine);
     };
@@ -135,7 +168,11 @@ fn seal<P: Suite>(sender: &mut Option<Sender<P>>, text: &[u8], desk: &mut Desk) 
     Ok(())
 }
 
-fn share<P: Suite>(sender: &Option<Sender<P>>, index: u32, desk: &mut Desk) -> Result<(), LineFault> {
+fn share<P: Suite>(
+    sender: &Option<Sender<P>>,
+    index: u32,
+    desk: &mut Desk,
+) -> Result<(), LineFault> {
     let Some(sender) = sender else {
         return Err(LineFault::BadLine);
     };

@@ -3,6 +3,7 @@ ghost use Prim.Native.Nat.{_<_};
 ghost use Rattle.std.specs.Options.{mapped, Cases as BySome};
 ghost use Rattle.std.specs.Vec.{made};
 ghost use Rattle.console.specs.Script.{extent};
+
 mod answers;
 mod archive;
 mod commands;
@@ -42,14 +43,20 @@ use store::table::slot_store;
 use store::values::HoldingValue;
 use walk::walk;
 
-fn answer_archive<P: Suite, S: Store<Id, Holding<P>>>(store: &S, desk: &mut Desk) -> Result<(), AllocError> {
+fn answer_archive<P: Suite, S: Store<Id, Holding<P>>>(
+    store: &S,
+    desk: &mut Desk,
+) -> Result<(), AllocError> {
     append(&mut desk.answers, b"archive")?;
     add_number(&mut desk.answers, store.free() as u64)?;
     add_number(&mut desk.answers, u64::from(store.floor()))?;
     append(&mut desk.answers, b"\n")
 }
 
-fn free_slots<P: Suite>(heap: Global, places: usize) -> Result<Vec<Slot<Id, Holding<P>>>, AllocError> {
+fn free_slots<P: Suite>(
+    heap: Global,
+    places: usize,
+) -> Result<Vec<Slot<Id, Holding<P>>>, AllocError> {
     let mut slots = Vec::with_capacity(heap, places)?;
     for _ in 0..places {
         slots.push(Slot::Free)?;
@@ -58,12 +65,24 @@ fn free_slots<P: Suite>(heap: Global, places: usize) -> Result<Vec<Slot<Id, Hold
 }
 
 // Makes an archive, and answers up to the next one or the end.
-fn serve<P: Suite, W: Write>(heap: Global, plan: Plan, script: &mut Script<'_>, desk: &mut Desk, sink: &mut W) -> io::Result<Option<Plan>>
+fn serve<P: Suite, W: Write>(
+    heap: Global,
+    plan: Plan,
+    script: &mut Script<'_>,
+    desk: &mut Desk,
+    sink: &mut W,
+) -> io::Result<Option<Plan>>
     ensures { λ r. ⌜ made r (λ o. BySome o (Unit {0}) (λ _. extent (mapped now (now (script .exit) .rest)) < extent (mapped now (now (script .entry) .rest)))) ⌝ }
 {
     let mut slots = free_slots(heap, plan.places)?;
-    let store = FloorLayer { below: slot_store::<P>(&mut slots), floor: plan.floor };
-    let mut archive = Archive { store, sender: None };
+    let store = FloorLayer {
+        below: slot_store::<P>(&mut slots),
+        floor: plan.floor,
+    };
+    let mut archive = Archive {
+        store,
+        sender: None,
+    };
     desk.space = MOST_SPACE;
     answer_archive(&archive.store, desk)?;
     walk(heap, script, &mut archive, desk, sink)

@@ -38,7 +38,10 @@ fn add_copy<P: Suite>(out: &mut Vec<u8>, copy: SessionCopy<P>) -> Result<(), All
     add_part(out, copy.r3)
 }
 
-pub(crate) fn add_holding<P: Suite>(out: &mut Vec<u8>, holding: Holding<P>) -> Result<(), AllocError> {
+pub(crate) fn add_holding<P: Suite>(
+    out: &mut Vec<u8>,
+    holding: Holding<P>,
+) -> Result<(), AllocError> {
     match holding {
         Holding::Held(copy) => add_copy(out, copy),
         Holding::Disputed => add_word(out, b"disputed"),

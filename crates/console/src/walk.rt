@@ -30,7 +30,12 @@ fn set_space(desk: &mut Desk, space: usize) -> Result<(), AllocError> {
     append(&mut desk.answers, b"\n")
 }
 
-fn obey<S: Serves>(heap: Global, line: &[u8], server: &mut S, desk: &mut Desk) -> Result<Option<Plan>, LineFault> {
+fn obey<S: Serves>(
+    heap: Global,
+    line: &[u8],
+    server: &mut S,
+    desk: &mut Desk,
+) -> Result<Option<Plan>, LineFault> {
     match read_command(heap, line)? {
         Command::Archive(plan) => return Ok(Some(plan)),
         Command::Space(space) => set_space(desk, space)?,
@@ -50,7 +55,13 @@ fn is_silent(line: &[u8]) -> bool {
     line.is_empty() || line[0] == b'#'
 }
 
-fn answer<S: Serves>(heap: Global, line: &[u8], number: u64, server: &mut S, desk: &mut Desk) -> Result<Option<Plan>, AllocError> {
+fn answer<S: Serves>(
+    heap: Global,
+    line: &[u8],
+    number: u64,
+    server: &mut S,
+    desk: &mut Desk,
+) -> Result<Option<Plan>, AllocError> {
     if is_silent(line) {
         return Ok(None);
     }
@@ -65,7 +76,13 @@ fn answer<S: Serves>(heap: Global, line: &[u8], number: u64, server: &mut S, des
 }
 
 // Answers line by line, up to the next archive that is asked for, or to the end.
-pub(crate) fn walk<S: Serves, W: Write>(heap: Global, script: &mut Script<'_>, server: &mut S, desk: &mut Desk, sink: &mut W) -> io::Result<Option<Plan>>
+pub(crate) fn walk<S: Serves, W: Write>(
+    heap: Global,
+    script: &mut Script<'_>,
+    server: &mut S,
+    desk: &mut Desk,
+    sink: &mut W,
+) -> io::Result<Option<Plan>>
     ensures { λ r. ⌜ made r (λ o. BySome o (Unit {0}) (λ _. extent (mapped now (now (script .exit) .rest)) < extent (mapped now (now (script .entry) .rest)))) ⌝ }
 {
     while let Some(line) = script.next_line() {
