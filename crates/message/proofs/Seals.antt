@@ -1,9 +1,10 @@
 -- The pieces of a message, one behind another.
 use Prim.Native.Nat.{ℕ, _+_, _-_, _^_, _<_, _≤_}
-use mathlib.Core.Path.{_≡_, refl, sym, ap, _∙_}
+use mathlib.Core.Path.{_≡_, sym, ap, _∙_}
 use mathlib.Core.Bool.{true}
 use mathlib.Core.List.{List, [], _∷_, _++_, append-assoc}
-use mathlib.Core.Logic.{_⊎_, inl, inr}
+use mathlib.Core.Logic.{inl, inr}
+use native.Mathlib.Nat.{zero-add}
 use native.Mathlib.Omega.{arith}
 use lib.ListN.{length, take, drop}
 use Rattle.std.specs.declared.result.Result.the-variants.{Ok, Err}
@@ -15,7 +16,7 @@ use Rattle.ratchet.specs.Suite.{Meaning, Lawful, parts}
 use Rattle.copy_bytes.specs.declared.output.SpaceRefusal.the-variants.{TooSmall}
 use Rattle.copy_bytes.specs.Output.{fits, answered, filled}
 use Rattle.copy_bytes.specs.Placed.{Put}
-use Rattle.copy_bytes.proofs.Places.{put-join, put-laid}
+use Rattle.copy_bytes.proofs.Places.{put-join}
 use Rattle.message.specs.Varint.{varint}
 use Rattle.message.specs.Frame.{head}
 use Rattle.message.specs.Seal.{tagged}
@@ -24,7 +25,11 @@ use Rattle.message.proofs.Varints.{groups-size}
 pub varint-size : (v : ℕ) → v < 2 ^ 32 → length (varint v) ≤ 5
 varint-size v h = groups-size 4 4 v (omega arith)
 
--- what stands at the front fills the output
+-- what stands at the front is laid over the output
+put-laid : {r : ℕ} {xs old new : List ℕ} → Put 0 xs old r new → new ≡ laid xs old
+put-laid {r} {xs} {old} p = p .holds ∙ ap (λ (n : ℕ). xs ++ drop n old) (zero-add (length xs))
+
+-- and fills it
 pub put-answered : {r : ℕ} {xs old new : List ℕ} → Put 0 xs old r new → (Ok r ≡ answered xs old) × (new ≡ filled xs old)
 put-answered {r} {xs} {old} p =
     let s = p .size in

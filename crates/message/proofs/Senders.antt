@@ -1,30 +1,27 @@
 -- What a new sender keeps, and what it keeps as it seals.
-use Prim.Native.Nat.{ℕ, suc, _+_, _-_, _*_, _^_, _<_, _≤_}
+use Prim.Native.Nat.{ℕ, suc, _+_, _-_, _*_, _^_, _≤_}
 use mathlib.Core.Path.{_≡_, refl, sym, ap, _∙_}
-use mathlib.Core.Bool.{Bool, true, false, cond, not}
+use mathlib.Core.Bool.{false}
 use mathlib.Core.List.{List}
-use mathlib.Core.Logic.{_⊎_, inl, inr}
+use mathlib.Core.Logic.{inl, inr}
 use native.Mathlib.Omega.{arith}
-use lib.Dec.{eqb, leb}
+use lib.Dec.{eqb}
 use lib.ListN.{length}
-use Rattle.std.specs.declared.option.Option.{Option}
 use Rattle.std.specs.declared.option.Option.the-variants.{Some, None}
-use Rattle.std.specs.declared.result.Result.{Result}
 use Rattle.std.specs.declared.result.Result.the-variants.{Ok, Err}
-use Rattle.std.proofs.shelf.Tests.{cases-bool, cases-eq, eq-eqb, ne-eqb, le-leb, cond-true, cond-false, and-from, not-from-false, both-ways}
+use Rattle.std.proofs.shelf.Tests.{cases-bool, le-leb, cond-true, cond-false, and-from, not-from-false, both-ways}
 use Rattle.ratchet.specs.declared.copies.SessionCopy.{SessionCopy}
 use Rattle.ratchet.specs.declared.ids.Id.{Id}
 use Rattle.ratchet.specs.Suite.{Meaning}
 use Rattle.ratchet.specs.Ratchet.{step, steps}
 use Rattle.ratchet.specs.Advance.{stepped}
-use Rattle.copy_bytes.specs.declared.named.CopyFault.{CopyFault}
 use Rattle.copy_bytes.specs.declared.named.CopyFault.the-variants.{Length}
 use Rattle.copy_bytes.specs.CopyBytes.{copy-of, read-start}
-use Rattle.copy_bytes.specs.Output.{fits, answered, filled}
+use Rattle.copy_bytes.specs.Output.{answered, filled}
 use Rattle.message.specs.declared.sender.Sender.{Sender}
 use Rattle.message.specs.Seal.{sealed}
 use Rattle.message.proofs.Seals.{answered-fits}
-use Rattle.message.specs.Sender.{from-start, Kept, new-sender, seal-size, seal-answer, seal-output, moved, after-seal}
+use Rattle.message.specs.Sender.{Kept, Share-law, seal-size, seal-answer, seal-output, moved, after-seal}
 
 module _ {P : Type 0} (m : Meaning P) where
   start-index : (bs : List ℕ) (c : SessionCopy P) → Ok c ≡ read-start m bs → c .index ≡ 0
@@ -40,7 +37,7 @@ module _ {P : Type 0} (m : Meaning P) where
   pub new-kept : (id : Id) (bs : List ℕ) (c : SessionCopy P) → Ok c ≡ read-start m bs → Kept m (record { id = id; start = c; current = c; spent = false })
   new-kept id bs c e = record {
     origin = start-index bs c e;
-    by-steps = (let i = start-index bs c e in let z : 0 ≡ c .index - c .index = omega arith in ap (λ (n : ℕ). steps (m .hash) n c) z);
+    by-steps = ap (λ (n : ℕ). steps (m .hash) n c) (sym (start-index bs c e));
     last = λ f. let z : _≡_ {A = ℕ} 0 1 = cc in absurd (omega arith);
   }
 
@@ -55,10 +52,9 @@ module _ {P : Type 0} (m : Meaning P) where
   next-kept s next e unspent k =
       let is = next-is (s .current) next e in
       let i : next .index ≡ s .current .index + 1 = ap (λ c. c .index) is in
-      let o = k .origin in
-      let n : suc (s .current .index - s .start .index) ≡ next .index - s .start .index = omega arith in
+      let n : suc (s .current .index) ≡ next .index = omega arith in
       record {
-        origin = o;
+        origin = k .origin;
         by-steps = is ∙ ap (step (m .hash)) (k .by-steps) ∙ ap (λ (j : ℕ). steps (m .hash) j (s .start)) n;
         last = λ f. absurd (both-ways (s .spent) unspent f);
       }
@@ -76,3 +72,6 @@ module _ {P : Type 0} (m : Meaning P) where
         ap (moved s) n ∙ sym (cond-true _ _ _ all),
         next-kept s next n unspent,
       )
+
+  pub share-law : Share-law m
+  share-law s index k = let o = k .origin in let e : index - s .start .index ≡ index = omega arith in ap (λ (n : ℕ). steps (m .hash) n (s .start)) e

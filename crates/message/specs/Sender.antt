@@ -14,7 +14,6 @@ use Rattle.ratchet.specs.declared.ids.Id.{Id}
 use Rattle.ratchet.specs.Suite.{Meaning}
 use Rattle.ratchet.specs.Ratchet.{steps}
 use Rattle.ratchet.specs.Advance.{stepped}
-use Rattle.copy_bytes.specs.declared.named.NamedCopy.{NamedCopy}
 use Rattle.copy_bytes.specs.declared.named.CopyFault.{CopyFault}
 use Rattle.copy_bytes.specs.declared.named.Version.the-variants.{Share}
 use Rattle.copy_bytes.specs.declared.output.SpaceRefusal.{SpaceRefusal}
@@ -60,11 +59,15 @@ module _ {P : Type 0} where
     abbrev pub reached : Sender P → ℕ → SessionCopy P
     reached s index = steps (m .hash) (index - s .start .index) (s .start)
 
-    -- a sender starts at index 0, has its current copy by single steps, and is spent at the last index only
+    -- the current copy is the start, at index 0, after as many single steps as its index; the sender is spent at the last index only
     pub record Kept (s : Sender P) : Type 0 where
       pub origin : s .start .index ≡ 0
-      pub by-steps : s .current ≡ reached s (s .current .index)
+      pub by-steps : s .current ≡ steps (m .hash) (s .current .index) (s .start)
       pub last : s .spent ≡ true → s .current .index ≡ 2 ^ 32 - 1
+
+    -- what such a sender shares at an index is its start after so many single steps
+    abbrev pub Share-law : Type 0
+    Share-law = (s : Sender P) (index : ℕ) → Kept s → reached s index ≡ steps (m .hash) index (s .start)
 
     -- four parts make a sender at index 0
     abbrev pub new-sender : Id → List ℕ → Result (Sender P) CopyFault

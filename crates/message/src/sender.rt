@@ -2,7 +2,7 @@ ghost use mathlib.Core.Path.{_≡_};
 ghost use Prim.Native.Nat.{_-_};
 ghost use Rattle.std.specs.Vec.{made};
 ghost use Rattle.ratchet.specs.Ratchet.{steps};
-ghost use Rattle.message.specs.Sender.{Kept, new-sender, seal-space, seal-answer, seal-output, after-seal, share-space, share-answer, share-output};
+ghost use Rattle.message.specs.Sender.{Kept, Share-law, new-sender, seal-space, seal-answer, seal-output, after-seal, share-space, share-answer, share-output};
 use crate::sealing::write_sealed;
 use copy_bytes::named::CopyFault;
 use copy_bytes::named::NamedCopy;
@@ -108,7 +108,7 @@ impl<P: Suite> Sender<P> {
         ensures value { λ r. ⌜ r ≡ share-answer suite (now (self .entry)) index (now (out .entry)) ⌝ }
         ensures output { λ _. ⌜ now (out .exit) ≡ share-output suite (now (self .entry)) index (now (out .entry)) ⌝ }
     {
-        if index > self.current.index {
+        if index > self.index() {
             return Err(ShareRefusal::Ahead);
         }
         let copy = copy_at(self.start, index);
@@ -124,4 +124,11 @@ fn copy_at<P: Suite>(start: SessionCopy<P>, index: u32) -> SessionCopy<P>
         Ok(there) => there.copy,
         Err(_) => start,
     }
+}
+
+// What a sender shares at an index is its start after so many single steps.
+pub fn share_law<P: Suite>() -> u8
+    ensures { λ _. ⌜ Share-law suite ⌝ }
+{
+    0
 }

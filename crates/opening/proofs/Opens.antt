@@ -1,5 +1,5 @@
 -- The ways of opening a message.
-use Prim.Native.Nat.{ℕ, _+_, _-_, _^_, _<_, _≤_}
+use Prim.Native.Nat.{ℕ, _+_, _-_, _≤_}
 use mathlib.Core.Path.{_≡_, refl, sym, ap, _∙_}
 use mathlib.Core.Bool.{Bool, true, false}
 use mathlib.Core.List.{List, _++_}
@@ -25,7 +25,7 @@ use Rattle.ratchet.specs.Cost.{cost}
 use Rattle.ratchet.specs.Ratchet.{steps}
 use Rattle.ratchet.specs.Suite.{Meaning, Lawful, parts, Deciphered}
 use Rattle.ratchet.proofs.Steps.{steps-add, steps-index}
-use Rattle.copy_bytes.specs.Output.{fits, answered, filled}
+use Rattle.copy_bytes.specs.Output.{answered, filled}
 use Rattle.message.specs.declared.frame.Frame.{Frame}
 use Rattle.message.specs.declared.frame.FrameFault.{FrameFault}
 use Rattle.message.specs.Frame.{head, body, frame-of, framed}

@@ -1,5 +1,5 @@
 -- What opening a message gives, by what is shown of its session.
-use Prim.Native.Nat.{ℕ, _+_, _≤_}
+use Prim.Native.Nat.{ℕ, _+_}
 use mathlib.Core.Bool.{cond}
 use mathlib.Core.List.{List}
 use lib.ListN.{length, take, drop}
@@ -8,7 +8,6 @@ use Rattle.std.specs.declared.option.Option.{Option}
 use Rattle.std.specs.declared.option.Option.the-variants.{Some, None}
 use Rattle.std.specs.declared.result.Result.{Result}
 use Rattle.std.specs.declared.result.Result.the-variants.{Ok, Err}
-use Rattle.ratchet.specs.declared.copies.SessionCopy.{SessionCopy}
 use Rattle.ratchet.specs.declared.copies.Advanced.{Advanced}
 use Rattle.ratchet.specs.declared.copies.AdvanceRefusal.{AdvanceRefusal}
 use Rattle.ratchet.specs.declared.copies.Holding.{Holding}

@@ -4,4 +4,3 @@ pub mod Laws
 pub mod Maps
 pub mod Meaning
 pub mod Sightings
-pub mod Slots

@@ -1,4 +1,3 @@
-use mathlib.Core.Path.{_≡_, sym}
 use native.Mathlib.Omega.{arith}
 use Rattle.copy_bytes.proofs.Places.{put-join}
 use Rattle.message.proofs.Seals.{varint-size, head-pieces}

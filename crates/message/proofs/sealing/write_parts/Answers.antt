@@ -1,7 +1,4 @@
-use native.Mathlib.Omega.{arith}
 use mathlib.Core.List.{_++_}
-use lib.ListN.{length-append}
-use Rattle.ratchet.specs.Suite.{parts}
 use Rattle.copy_bytes.proofs.Places.{too-small}
 use Rattle.message.specs.Seal.{tagged}
 use Rattle.message.proofs.Seals.{put-answered, tagged-pieces, length-tagged}

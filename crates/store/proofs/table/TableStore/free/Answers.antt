@@ -1,5 +1,0 @@
-use Rattle.store.proofs.Rows.{held-rising}
-use Rattle.store.proofs.table.TableStore.free.Needs as need
-
-pub returns : need.returns
-returns g c = record { value = c .count-free .ensures; ascends = held-rising (g .K·Key .rank) (c .args .self .now .slots .now) }
