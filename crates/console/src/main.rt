@@ -37,9 +37,9 @@ use std::io::Read;
 use std::io::Write;
 use store::keys::IdKey;
 use store::meaning::Store;
-use store::slots::Slot;
-use store::table::TableStore;
-use store::table::slot_store;
+use tables::slots::Slot;
+use tables::table::TableStore;
+use tables::table::slot_store;
 use store::values::HoldingValue;
 use walk::walk;
 
