@@ -1,0 +1,5 @@
+pub mod Added
+pub mod Cuts
+pub mod Hex
+pub mod Numbers
+pub mod ToGo
