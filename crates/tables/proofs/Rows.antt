@@ -17,7 +17,7 @@ use Rattle.tables.specs.declared.slots.Slot.{Slot}
 use Rattle.tables.specs.declared.slots.Slot.the-variants.{Free, Held}
 use Rattle.store.specs.Maps.{Rising, found, beyond, put, first}
 use Rattle.store.specs.Meaning.{Meaning}
-use Rattle.tables.specs.Search.{place, above, lower}
+use Rattle.tables.specs.Search.{place, above, lower, lowest}
 use Rattle.tables.specs.Slots.{is-free, has-key, free-slots, held, slots-mean}
 use Rattle.store.proofs.Lookups.{more, rising-put, found-put}
 use Rattle.tables.proofs.Places.{hit, swapped, place-at, place-none}
@@ -102,12 +102,7 @@ module _ {K V : Type 0} (rank : K → ℕ) where
   free-kept (Held p x ∷ s) k v =
       elim (cases-bool (eqb (rank p) (rank k))) [ inl y ↦ rw y | inr y ↦ rw y (free-kept s k v) ]
 
-  -- the lowest of an entry and those of the slots above a key
-  abbrev pub lowest : Option K → Option (K × V) → List (Slot K V) → Option (K × V)
-  lowest o best [] = best
-  lowest o best (Free ∷ s) = lowest o best s
-  lowest o best (Held k v ∷ s) = lowest o (cond (above rank o k) (lower rank best k v) best) s
-
+  -- the lowest entry above a key
   picked : K → V → Option (K × V) → Option (K × V)
   picked k v None = Some (k, v)
   picked k v (Some e) = cond (ltb (rank (e .0)) (rank k)) (Some e) (Some (k, v))
@@ -138,7 +133,7 @@ module _ {K V : Type 0} (rank : K → ℕ) where
   lower-first None = refl
   lower-first (Some e) = refl
 
-  lowest-of : (o : Option K) (b : Option (K × V)) (s : List (Slot K V)) → lowest o b s ≡ lower-of b (first (beyond rank (held rank s) o))
+  lowest-of : (o : Option K) (b : Option (K × V)) (s : List (Slot K V)) → lowest rank o b s ≡ lower-of b (first (beyond rank (held rank s) o))
   unfolding lower-of
   lowest-of None b [] = refl
   lowest-of (Some q) b [] = refl
@@ -150,7 +145,7 @@ module _ {K V : Type 0} (rank : K → ℕ) where
         | inr y ↦ rw (at, y) (lowest-of o b s)
       ]
 
-  pub lowest-is : (o : Option K) (s : List (Slot K V)) → lowest o None s ≡ first (beyond rank (held rank s) o)
+  pub lowest-is : (o : Option K) (s : List (Slot K V)) → lowest rank o None s ≡ first (beyond rank (held rank s) o)
   lowest-is o s = lowest-of o None s ∙ lower-first (first (beyond rank (held rank s) o))
 
 module _ {K V : Type 0} (rank : K → ℕ) (s : List (Slot K V)) (k : K) where

@@ -6,6 +6,8 @@ use lib.Dec.{ltb}
 use Rattle.std.specs.declared.option.Option.{Option}
 use Rattle.std.specs.declared.option.Option.the-variants.{Some, None}
 use Rattle.std.specs.Options.{mapped}
+use Rattle.tables.specs.declared.slots.Slot.{Slot}
+use Rattle.tables.specs.declared.slots.Slot.the-variants.{Free, Held}
 
 -- the first place whose element passes the test
 abbrev pub place : {A : Type 0} → (A → Bool) → List A → Option ℕ
@@ -22,3 +24,9 @@ module _ {K : Type 0} (rank : K → ℕ) where
   abbrev pub lower : {V : Type 0} → Option (K × V) → K → V → Option (K × V)
   lower None k v = Some (k, v)
   lower (Some e) k v = cond (ltb (rank k) (rank (e .0))) (Some (k, v)) (Some e)
+
+  -- the lowest of an entry and those of the slots above the key
+  abbrev pub lowest : {V : Type 0} → Option K → Option (K × V) → List (Slot K V) → Option (K × V)
+  lowest o best [] = best
+  lowest o best (Free ∷ s) = lowest o best s
+  lowest o best (Held k v ∷ s) = lowest o (cond (above o k) (lower best k v) best) s

@@ -1,11 +1,12 @@
 ghost use mathlib.Core.Path.{_≡_};
 ghost use mathlib.Core.Bool.{cond};
 ghost use lib.ListN.{length, replicate};
+ghost use Rattle.std.specs.declared.option.Option.the-variants.{None};
 ghost use Rattle.std.specs.declared.result.Result.the-variants.{Err};
 ghost use Rattle.store.specs.declared.refusal.StoreRefusal.the-variants.{NoPlace};
 ghost use Rattle.tables.specs.declared.slots.Slot.the-variants.{Free};
-ghost use Rattle.store.specs.Meaning.{looked, nexted, room, answer, taken};
-ghost use Rattle.tables.specs.Search.{place, above, lower};
+ghost use Rattle.store.specs.Meaning.{looked, room, answer, taken};
+ghost use Rattle.tables.specs.Search.{place, above, lower, lowest};
 ghost use Rattle.tables.specs.Slots.{is-free, has-key, free-slots, slots-mean};
 use store::meaning::Key;
 use store::meaning::Value;
@@ -85,7 +86,7 @@ fn lower_of<K: Key, V: Copy>(last: Option<K>, best: Option<(K, V)>, k: K, v: V) 
 }
 
 pub(crate) fn lowest_above<K: Key, V: Copy>(slots: &[Slot<K, V>], last: Option<K>) -> Option<(K, V)>
-    ensures { λ r. ⌜ r ≡ nexted rank (slots-mean rank (now (slots .entry))) last ⌝ }
+    ensures { λ r. ⌜ r ≡ lowest rank last None (now (slots .entry)) ⌝ }
 {
     let mut best = None;
     for slot in slots {

@@ -2,7 +2,7 @@ use mathlib.Core.Path.{sym, ap, _∙_}
 use Prim.Native.Nat.{_+_}
 use lib.ListN.{drop}
 use Rattle.std.proofs.shelf.Lists.{drop-all}
-use Rattle.tables.proofs.Rows.{lowest, lowest-is}
+use Rattle.tables.specs.Search.{lowest}
 use Rattle.tables.proofs.Places.{step}
 use Rattle.tables.proofs.slots.lowest_above.Needs as need
 use Rattle.tables.proofs.slots.lowest_above.Needs.{in-Held, in-rest}
@@ -20,4 +20,4 @@ loop-slot-again g c =
 
 pub returns : need.returns
 returns g c =
-    sym (ap (lowest (g .K·Key .rank) (c .args .last) (c .loop-slot .best)) (drop-all (c .loop-slot .slot-index) (c .args .slots .now) (c .loop-slot-test .left))) ∙ c .loop-slot .inv ∙ lowest-is (g .K·Key .rank) (c .args .last) (c .args .slots .now)
+    sym (ap (lowest (g .K·Key .rank) (c .args .last) (c .loop-slot .best)) (drop-all (c .loop-slot .slot-index) (c .args .slots .now) (c .loop-slot-test .left))) ∙ c .loop-slot .inv

@@ -1,7 +1,7 @@
 use mathlib.Core.Path.{_≡_}
 use lib.ListN.{drop}
 use Rattle.std.specs.declared.option.Option.the-variants.{None}
-use Rattle.tables.proofs.Rows.{lowest}
+use Rattle.tables.specs.Search.{lowest}
 use Rattle.tables.proofs.slots.lowest_above.Given as given
 
 abbrev pub Inv-loop-slot : given.InvT-loop-slot

@@ -1,5 +1,9 @@
-use Rattle.tables.proofs.Rows.{held-rising}
+use mathlib.Core.Path.{_∙_}
+use Rattle.tables.proofs.Rows.{lowest-is, held-rising}
 use Rattle.tables.proofs.table.TableStore.next.Needs as need
 
 pub returns : need.returns
-returns g c = record { value = c .lowest-above .ensures; ascends = held-rising (g .K·Key .rank) (c .args .self .now .slots .now) }
+returns g c = record {
+  value = c .lowest-above .ensures ∙ lowest-is (g .K·Key .rank) (c .args .last .now) (c .args .self .now .slots .now);
+  ascends = held-rising (g .K·Key .rank) (c .args .self .now .slots .now);
+}
