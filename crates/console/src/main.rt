@@ -10,6 +10,7 @@ mod commands;
 mod desk;
 mod printing;
 mod script;
+mod verbs;
 mod walk;
 mod words;
 
