@@ -9,6 +9,7 @@ use lib.Dec.{eqb, leb}
 use lib.ListN.{length, getD}
 use Rattle.std.proofs.shelf.Decimals.{decimal-value}
 use Rattle.std.proofs.shelf.Numerals.{Numerals, numerals-by-fold, tells-allDigits}
+use Rattle.std.proofs.shelf.Results.{made-weaker}
 use Rattle.std.proofs.shelf.Tests.{cond-false, ne-eqb, false≢true, eqb-false, eqb-true, and-from}
 use Rattle.std.proofs.shelf.Ways.{tells}
 use Rattle.std.specs.shelf.Lists.{All}
@@ -142,3 +143,6 @@ cut-whole s bs a b o e f g = rejoined s bs b (sym g ∙ f) ∙ ap (λ ds. ds ++ 
 pub made-bytes : {V E : Type 0} (items : V → List ℕ) (r : Result V E) (w : List ℕ) (Q : E → Type 0) → Cases r (λ v. bytes-of w ≡ Some (items v)) Q → made r (λ v. w ≡ hex-word (items v))
 made-bytes items (Ok v) w Q h = written-bytes w (items v) (sym h) .0
 made-bytes items (Err e) w Q h = tt
+
+pub made-of : {T E : Type 0} (f : T → List ℕ) (r : Result T E) (a b : List ℕ) → a ≡ b → made r (λ x. b ≡ f x) → made r (λ x. a ≡ f x)
+made-of f r a b e h = made-weaker r (λ x. b ≡ f x) (λ x. a ≡ f x) (λ x g. e ∙ g) h

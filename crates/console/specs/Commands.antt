@@ -22,7 +22,10 @@ abbrev pub id-word : Id → List ℕ
 id-word k = hex-word (id-bytes k)
 
 abbrev pub plan-words : Plan → List ℕ
-plan-words p = spaced (codes "bench") (spaced (codes "slots") (spaced (decimal (p .places)) (spaced (decimal (p .sightings)) (decimal (p .floor)))))
+plan-words p = spaced (decimal (p .places)) (spaced (decimal (p .sightings)) (decimal (p .floor)))
+
+abbrev pub archive-words : Plan → List ℕ
+archive-words p = spaced (codes "bench") (spaced (codes "slots") (plan-words p))
 
 abbrev pub call-line : AnyCall → List ℕ
 call-line (Sender k start) = spaced (codes "sender") (spaced (id-word k) (hex-word (vec-items start)))
@@ -39,6 +42,6 @@ call-line Floor = codes "floor"
 call-line (Advance copy n) = spaced (codes "advance") (spaced (hex-word (vec-items copy)) (decimal n))
 
 abbrev pub command-line : Command → List ℕ
-command-line (Archive p) = spaced (codes "archive") (plan-words p)
+command-line (Archive p) = spaced (codes "archive") (archive-words p)
 command-line (Space n) = spaced (codes "space") (decimal n)
 command-line (Call c) = call-line c

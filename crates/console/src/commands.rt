@@ -4,7 +4,7 @@ ghost use lib.Chars.{codes};
 ghost use Rattle.std.specs.Of.Vec.{vec-items};
 ghost use Rattle.std.specs.Vec.{made};
 ghost use Rattle.std.specs.Written.{decimal};
-ghost use Rattle.console.specs.Commands.{spaced, id-word, plan-words, call-line, command-line};
+ghost use Rattle.console.specs.Commands.{spaced, id-word, plan-words, archive-words, call-line, command-line};
 ghost use Rattle.console.specs.Verbs.{verb-word};
 ghost use Rattle.console.specs.Words.{hex-word};
 use crate::verbs::Verb;
@@ -96,22 +96,29 @@ fn two_words(rest: &[u8]) -> Result<(&[u8], &[u8]), LineFault>
     }
 }
 
-fn read_archive(rest: &[u8]) -> Result<Plan, LineFault> {
-    let (suite, rest) = two_words(rest)?;
-    let (store, rest) = two_words(rest)?;
+fn read_plan(rest: &[u8]) -> Result<Plan, LineFault>
+    ensures { λ r. ⌜ made r (λ p. now (rest .entry) ≡ plan-words p) ⌝ }
+{
     let (places, rest) = two_words(rest)?;
     let (sightings, floor) = two_words(rest)?;
-    if suite != b"bench" || store != b"slots" {
-        return Err(LineFault::BadLine);
-    }
-    let places = read_count(places)?;
-    let sightings = read_count(sightings)?;
-    let floor = read_index(floor)?;
     Ok(Plan {
-        places,
-        sightings,
-        floor,
+        places: read_count(places)?,
+        sightings: read_count(sightings)?,
+        floor: read_index(floor)?,
     })
+}
+
+// There is one suite and one kind of store so far.
+fn read_archive(rest: &[u8]) -> Result<Plan, LineFault>
+    ensures { λ r. ⌜ made r (λ p. now (rest .entry) ≡ archive-words p) ⌝ }
+{
+    let (suite, rest) = two_words(rest)?;
+    let (store, rest) = two_words(rest)?;
+    if is_word(suite, b"bench") && is_word(store, b"slots") {
+        read_plan(rest)
+    } else {
+        Err(LineFault::BadLine)
+    }
 }
 
 fn read_sender(heap: Global, rest: &[u8]) -> Result<Call, LineFault>
@@ -172,17 +179,26 @@ fn read_call(heap: Global, verb: Verb, rest: &[u8]) -> Result<Call, LineFault>
     }
 }
 
-pub(crate) fn read_command(heap: Global, line: &[u8]) -> Result<Command, LineFault> {
-    let cut = cut_at_first(line, b' ');
-    let Some(verb) = read_verb(cut.front) else {
-        return Err(LineFault::BadLine);
-    };
-    let Some(rest) = cut.back else {
-        return read_lone(verb);
-    };
+fn read_with(heap: Global, verb: Verb, rest: &[u8]) -> Result<Command, LineFault>
+    ensures { λ r. ⌜ made r (λ c. spaced (verb-word verb) (now (rest .entry)) ≡ command-line c) ⌝ }
+{
     match verb {
         Verb::Archive => Ok(Command::Archive(read_archive(rest)?)),
         Verb::Space => Ok(Command::Space(read_count(rest)?)),
         _ => Ok(Command::Call(read_call(heap, verb, rest)?)),
+    }
+}
+
+// The command that a line is.
+pub(crate) fn read_command(heap: Global, line: &[u8]) -> Result<Command, LineFault>
+    ensures { λ r. ⌜ made r (λ c. now (line .entry) ≡ command-line c) ⌝ }
+{
+    let cut = cut_at_first(line, b' ');
+    let Some(verb) = read_verb(cut.front) else {
+        return Err(LineFault::BadLine);
+    };
+    match cut.back {
+        Some(rest) => read_with(heap, verb, rest),
+        None => read_lone(verb),
     }
 }
