@@ -1,4 +1,7 @@
 // An archive and its sender, and what they answer to the calls of a script.
+ghost use mathlib.Core.Path.{_≡_};
+ghost use Rattle.std.specs.declared.result.Result.the-variants.{Err};
+ghost use Rattle.console.specs.declared.words.LineFault.the-variants.{BadLine};
 use crate::answers::add_bytes;
 use crate::answers::add_number;
 use crate::answers::add_refusal;
@@ -156,7 +159,10 @@ fn seal<P: Suite>(
     sender: &mut Option<Sender<P>>,
     text: &[u8],
     desk: &mut Desk,
-) -> Result<(), LineFault> {
+) -> Result<(), LineFault>
+    ensures bad_sender { λ r. ⌜ (r ≡ Err BadLine → now (sender .exit) ≡ now (sender .entry)) ⌝ }
+    ensures bad_desk { λ r. ⌜ (r ≡ Err BadLine → now (desk .exit) ≡ now (desk .entry)) ⌝ }
+{
     let Some(sender) = sender else {
         return Err(LineFault::BadLine);
     };
@@ -168,11 +174,9 @@ fn seal<P: Suite>(
     Ok(())
 }
 
-fn share<P: Suite>(
-    sender: &Option<Sender<P>>,
-    index: u32,
-    desk: &mut Desk,
-) -> Result<(), LineFault> {
+fn share<P: Suite>(sender: &Option<Sender<P>>, index: u32, desk: &mut Desk) -> Result<(), LineFault>
+    ensures bad_desk { λ r. ⌜ (r ≡ Err BadLine → now (desk .exit) ≡ now (desk .entry)) ⌝ }
+{
     let Some(sender) = sender else {
         return Err(LineFault::BadLine);
     };

@@ -38,10 +38,10 @@ use std::io::Read;
 use std::io::Write;
 use store::keys::IdKey;
 use store::meaning::Store;
+use store::values::HoldingValue;
 use tables::slots::Slot;
 use tables::table::TableStore;
 use tables::table::slot_store;
-use store::values::HoldingValue;
 use walk::walk;
 
 fn answer_archive<P: Suite, S: Store<Id, Holding<P>>>(

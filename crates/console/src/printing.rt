@@ -48,7 +48,10 @@ fn add_copy<P: Suite>(out: &mut Vec<u8>, copy: SessionCopy<P>) -> Result<(), All
     add_part(out, copy.r3)
 }
 
-pub(crate) fn add_holding<P: Suite>(out: &mut Vec<u8>, holding: Holding<P>) -> Result<(), AllocError>
+pub(crate) fn add_holding<P: Suite>(
+    out: &mut Vec<u8>,
+    holding: Holding<P>,
+) -> Result<(), AllocError>
     ensures { λ r. ⌜ made r (λ _. vec-items (now (out .exit)) ≡ vec-items (now (out .entry)) ++ shown-holding suite holding) ⌝ }
 {
     match holding {
