@@ -18,6 +18,10 @@ use Rattle.console.specs.Words.{hex, hex-digit, hex-word}
 pub twice : {T E : Type 0} (r : Result T E) (a b d xs ys : List ℕ) → b ≡ a ++ xs → made r (λ _. d ≡ b ++ ys) → made r (λ _. d ≡ a ++ (xs ++ ys))
 twice r a b d xs ys e h = made-weaker r (λ _. d ≡ b ++ ys) (λ _. d ≡ a ++ (xs ++ ys)) (λ _ f. f ∙ ap (λ zs. zs ++ ys) e ∙ append-assoc a xs ys) h
 
+-- the same, where the two pieces are a line
+pub line-of : {T E : Type 0} (r : Result T E) (a b d xs ys line : List ℕ) → xs ++ ys ≡ line → b ≡ a ++ xs → made r (λ _. d ≡ b ++ ys) → made r (λ _. d ≡ a ++ line)
+line-of r a b d xs ys line f e h = made-weaker r (λ _. d ≡ a ++ (xs ++ ys)) (λ _. d ≡ a ++ line) (λ _ g. g ∙ ap (λ vs. a ++ vs) f) (twice r a b d xs ys e h)
+
 pub five-words : {T E : Type 0} (r : Result T E) (a b d e f z v w x y u : List ℕ) → b ≡ a ++ v → d ≡ b ++ w → e ≡ d ++ x → f ≡ e ++ y → made r (λ _. z ≡ f ++ u) → made r (λ _. z ≡ a ++ (v ++ (w ++ (x ++ (y ++ u)))))
 five-words r a b d e f z v w x y u one two three four h =
     twice r a b z v (w ++ (x ++ (y ++ u))) one (twice r b d z w (x ++ (y ++ u)) two (twice r d e z x (y ++ u) three (twice r e f z y u four h)))

@@ -23,7 +23,7 @@ beyond m None cs h = refl
 beyond m (Some v) [] h = h
 beyond m (Some v) (c ∷ cs) h = beyond m (extended v (digit c)) cs (grows m v (digit c) h)
 
-within : (m n : ℕ) (o : Option ℕ) → Some n ≡ at-most m o → (o ≡ Some n) × (n ≤ m)
+pub within : (m n : ℕ) (o : Option ℕ) → Some n ≡ at-most m o → (o ≡ Some n) × (n ≤ m)
 within m n (Some v) h = grind (arith, tells)
 within m n None h = grind arith
 

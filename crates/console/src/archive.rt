@@ -1,4 +1,15 @@
 // An archive and its sender, and what they answer to the calls of a script.
+ghost use mathlib.Core.Path.{_≡_};
+ghost use mathlib.Core.List.{_++_};
+ghost use lib.Chars.{codes};
+ghost use Rattle.std.specs.Of.Vec.{vec-items};
+ghost use Rattle.std.specs.Vec.{made};
+ghost use Rattle.std.specs.Written.{decimal};
+ghost use Rattle.ratchet.specs.Ids.{id-number};
+ghost use Rattle.store.specs.Meaning.{looked, nexted};
+ghost use Rattle.console.specs.Lines.{look-line, next-line};
+ghost use Rattle.std.specs.declared.result.Result.the-variants.{Err};
+ghost use Rattle.console.specs.declared.words.LineFault.the-variants.{BadLine};
 use crate::answers::add_bytes;
 use crate::answers::add_number;
 use crate::answers::add_refusal;
@@ -63,7 +74,9 @@ fn look<P: Suite, S: Store<Id, Holding<P>>>(
     store: &S,
     id: Id,
     desk: &mut Desk,
-) -> Result<(), AllocError> {
+) -> Result<(), AllocError>
+    ensures { λ r. ⌜ made r (λ _. vec-items (now (desk .exit) .answers) ≡ vec-items (now (desk .entry) .answers) ++ look-line suite (looked id-number (means (now (store .entry))) id)) ⌝ }
+{
     append(&mut desk.answers, b"look")?;
     match store.look(id) {
         Some(holding) => add_holding(&mut desk.answers, holding),
@@ -75,7 +88,9 @@ fn next<P: Suite, S: Store<Id, Holding<P>>>(
     store: &S,
     last: Option<Id>,
     desk: &mut Desk,
-) -> Result<(), AllocError> {
+) -> Result<(), AllocError>
+    ensures { λ r. ⌜ made r (λ _. vec-items (now (desk .exit) .answers) ≡ vec-items (now (desk .entry) .answers) ++ next-line suite (nexted id-number (means (now (store .entry))) last)) ⌝ }
+{
     append(&mut desk.answers, b"next")?;
     match store.next(&last) {
         Some(e) => {
@@ -95,22 +110,26 @@ fn open_message<P: Suite, S: Store<Id, Holding<P>>>(
     append(&mut desk.answers, b"open")?;
     match open(store, id, message, desk.offered()) {
         Ok(opened) => {
-            add_number(&mut desk.answers, u64::from(opened.index))?;
-            add_number(&mut desk.answers, u64::from(opened.hashes))?;
+            add_number(&mut desk.answers, opened.index as u64)?;
+            add_number(&mut desk.answers, opened.hashes as u64)?;
             add_bytes(&mut desk.answers, front(&desk.output, opened.size))
         }
         Err(refusal) => add_refusal(&mut desk.answers, refusal as u8),
     }
 }
 
-fn free<P: Suite, S: Store<Id, Holding<P>>>(store: &S, desk: &mut Desk) -> Result<(), AllocError> {
+fn free<P: Suite, S: Store<Id, Holding<P>>>(store: &S, desk: &mut Desk) -> Result<(), AllocError>
+    ensures { λ r. ⌜ made r (λ _. vec-items (now (desk .exit) .answers) ≡ vec-items (now (desk .entry) .answers) ++ (codes "free " ++ decimal (means (now (store .entry)) .places))) ⌝ }
+{
     append(&mut desk.answers, b"free")?;
     add_number(&mut desk.answers, store.free() as u64)
 }
 
-fn floor<P: Suite, S: Store<Id, Holding<P>>>(store: &S, desk: &mut Desk) -> Result<(), AllocError> {
+fn floor<P: Suite, S: Store<Id, Holding<P>>>(store: &S, desk: &mut Desk) -> Result<(), AllocError>
+    ensures { λ r. ⌜ made r (λ _. vec-items (now (desk .exit) .answers) ≡ vec-items (now (desk .entry) .answers) ++ (codes "floor " ++ decimal (means (now (store .entry)) .floor))) ⌝ }
+{
     append(&mut desk.answers, b"floor")?;
-    add_number(&mut desk.answers, u64::from(store.floor()))
+    add_number(&mut desk.answers, store.floor() as u64)
 }
 
 // The space limits no advance: its output is no call's.
@@ -124,7 +143,7 @@ fn advance_bytes<P: Suite>(bytes: &[u8], target: u32, desk: &mut Desk) -> Result
         Ok(there) => there,
         Err(refusal) => return add_refusal(&mut desk.answers, refusal as u8),
     };
-    add_number(&mut desk.answers, u64::from(there.hashes))?;
+    add_number(&mut desk.answers, there.hashes as u64)?;
     let moved = NamedCopy {
         id: named.id,
         copy: there.copy,
@@ -144,7 +163,7 @@ fn make_sender<P: Suite>(
     append(&mut desk.answers, b"sender")?;
     match Sender::new(id, start) {
         Ok(made) => {
-            add_number(&mut desk.answers, u64::from(made.index()))?;
+            add_number(&mut desk.answers, made.index() as u64)?;
             *sender = Some(made);
             Ok(())
         }
@@ -156,7 +175,10 @@ fn seal<P: Suite>(
     sender: &mut Option<Sender<P>>,
     text: &[u8],
     desk: &mut Desk,
-) -> Result<(), LineFault> {
+) -> Result<(), LineFault>
+    ensures bad_sender { λ r. ⌜ (r ≡ Err BadLine → now (sender .exit) ≡ now (sender .entry)) ⌝ }
+    ensures bad_desk { λ r. ⌜ (r ≡ Err BadLine → now (desk .exit) ≡ now (desk .entry)) ⌝ }
+{
     let Some(sender) = sender else {
         return Err(LineFault::BadLine);
     };
@@ -168,11 +190,9 @@ fn seal<P: Suite>(
     Ok(())
 }
 
-fn share<P: Suite>(
-    sender: &Option<Sender<P>>,
-    index: u32,
-    desk: &mut Desk,
-) -> Result<(), LineFault> {
+fn share<P: Suite>(sender: &Option<Sender<P>>, index: u32, desk: &mut Desk) -> Result<(), LineFault>
+    ensures bad_desk { λ r. ⌜ (r ≡ Err BadLine → now (desk .exit) ≡ now (desk .entry)) ⌝ }
+{
     let Some(sender) = sender else {
         return Err(LineFault::BadLine);
     };

@@ -10,6 +10,7 @@ mod commands;
 mod desk;
 mod printing;
 mod script;
+mod verbs;
 mod walk;
 mod words;
 
@@ -49,7 +50,7 @@ fn answer_archive<P: Suite, S: Store<Id, Holding<P>>>(
 ) -> Result<(), AllocError> {
     append(&mut desk.answers, b"archive")?;
     add_number(&mut desk.answers, store.free() as u64)?;
-    add_number(&mut desk.answers, u64::from(store.floor()))?;
+    add_number(&mut desk.answers, store.floor() as u64)?;
     append(&mut desk.answers, b"\n")
 }
 

@@ -2,6 +2,9 @@
 ghost use Prim.Native.Nat.{_<_};
 ghost use Rattle.std.specs.Options.{mapped, Cases as BySome};
 ghost use Rattle.std.specs.Vec.{made};
+ghost use mathlib.Core.Path.{_≡_};
+ghost use Rattle.std.specs.declared.result.Result.the-variants.{Err};
+ghost use Rattle.console.specs.declared.words.LineFault.the-variants.{BadLine};
 ghost use Rattle.console.specs.Script.{extent};
 use crate::answers::add_number;
 use crate::answers::append;
@@ -20,7 +23,10 @@ use std::io::Write;
 
 // Who does the calls of a script and puts their answers down.
 pub(crate) trait Serves {
-    fn serve(&mut self, call: Call, desk: &mut Desk) -> Result<(), LineFault>;
+    // A bad line alters nothing.
+    fn serve(&mut self, call: Call, desk: &mut Desk) -> Result<(), LineFault>
+        ensures server { λ r. ⌜ (r ≡ Err BadLine → now (self .exit) ≡ now (self .entry)) ⌝ }
+        ensures desk { λ r. ⌜ (r ≡ Err BadLine → now (desk .exit) ≡ now (desk .entry)) ⌝ };
 }
 
 fn set_space(desk: &mut Desk, space: usize) -> Result<(), AllocError> {
