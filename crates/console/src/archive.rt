@@ -59,7 +59,7 @@ fn look<P: Suite, S: Store<Id, Holding<P>>>(
     id: Id,
     desk: &mut Desk,
 ) -> Result<(), AllocError>
-    ensures { OnOk result (desk.new.answers.items ≡ desk.old.answers.items ++ look_line suite (looked id_number (means store.now) id)) }
+    ensures { OnOk result (desk.new.answers.items ≡ desk.old.answers.items ++ look_line P.suite (looked id_number (means store.now) id)) }
 {
     append(&mut desk.answers, b"look")?;
     match store.look(id) {
@@ -73,7 +73,7 @@ fn next<P: Suite, S: Store<Id, Holding<P>>>(
     last: Option<Id>,
     desk: &mut Desk,
 ) -> Result<(), AllocError>
-    ensures { OnOk result (desk.new.answers.items ≡ desk.old.answers.items ++ next_line suite (nexted id_number (means store.now) last)) }
+    ensures { OnOk result (desk.new.answers.items ≡ desk.old.answers.items ++ next_line P.suite (nexted id_number (means store.now) last)) }
 {
     append(&mut desk.answers, b"next")?;
     match store.next(&last) {

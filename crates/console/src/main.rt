@@ -1,4 +1,6 @@
 // Reads a script of calls on standard input, and prints every answer.
+#![tactic(auto)]
+
 ghost use Rattle.std.specs.Prelude.{◌<◌, IfOk, OnSome};
 ghost use Rattle.std.specs.Option.{option_map};
 ghost use Rattle.script.specs.Script.{extent};

@@ -16,8 +16,8 @@ use std::alloc::AllocError;
 // Writes a part, which is never wider than 1,024 bytes, and answers its width.
 fn write_part<P: Suite>(p: P, bytes: &mut [u8]) -> usize
     requires { length bytes.old ≡ 1024 }
-    ensures width { result ≡ suite.width }
-    ensures after { bytes.new ≡ laid (suite.encode p) bytes.old }
+    ensures width { result ≡ P.suite.width }
+    ensures after { bytes.new ≡ laid (P.suite.encode p) bytes.old }
 {
     let width = P::width();
     p.write(&mut bytes[0..width]);
@@ -25,7 +25,7 @@ fn write_part<P: Suite>(p: P, bytes: &mut [u8]) -> usize
 }
 
 fn add_part<P: Suite>(out: &mut Vec<u8>, p: P) -> Result<(), AllocError>
-    ensures { OnOk result (out.new.items ≡ out.old.items ++ shown_part suite p) }
+    ensures { OnOk result (out.new.items ≡ out.old.items ++ shown_part P.suite p) }
 {
     let mut bytes = [0; 1024];
     let width = write_part(p, &mut bytes);
@@ -33,7 +33,7 @@ fn add_part<P: Suite>(out: &mut Vec<u8>, p: P) -> Result<(), AllocError>
 }
 
 fn add_copy<P: Suite>(out: &mut Vec<u8>, copy: SessionCopy<P>) -> Result<(), AllocError>
-    ensures { OnOk result (out.new.items ≡ out.old.items ++ shown_copy suite copy) }
+    ensures { OnOk result (out.new.items ≡ out.old.items ++ shown_copy P.suite copy) }
 {
     add_number(out, copy.index as u64)?;
     add_part(out, copy.r0)?;
@@ -46,7 +46,7 @@ pub(crate) fn add_holding<P: Suite>(
     out: &mut Vec<u8>,
     holding: Holding<P>,
 ) -> Result<(), AllocError>
-    ensures { OnOk result (out.new.items ≡ out.old.items ++ shown_holding suite holding) }
+    ensures { OnOk result (out.new.items ≡ out.old.items ++ shown_holding P.suite holding) }
 {
     match holding {
         Holding::Held(copy) => add_copy(out, copy),

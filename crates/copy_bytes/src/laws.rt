@@ -4,7 +4,7 @@ use ratchet::suite::Suite;
 
 // Copies and their bytes turn into each other without loss.
 pub fn copy_laws<P: Suite>() -> u8
-    ensures { CopyLaws suite }
+    ensures { CopyLaws P.suite }
 {
     0
 }

@@ -17,9 +17,9 @@ pub(crate) fn put_at(bytes: &[u8], out: &mut [u8], at: usize) -> usize
 }
 
 pub(crate) fn put_part<P: Suite>(p: P, out: &mut [u8], at: usize) -> usize
-    requires { at + suite.width ≤ length out.old }
-    ensures next { result ≡ at + suite.width }
-    ensures put { Put at (suite.encode p) out.old result out.new }
+    requires { at + P.suite.width ≤ length out.old }
+    ensures next { result ≡ at + P.suite.width }
+    ensures put { Put at (P.suite.encode p) out.old result out.new }
 {
     let end = at + P::width();
     p.write(&mut out[at..end]);

@@ -38,16 +38,16 @@ fn id_at(bytes: &[u8], at: usize) -> Id
 }
 
 fn part_at<P: Suite>(bytes: &[u8], at: usize) -> P
-    requires { at + suite.width ≤ length bytes.now }
-    ensures { result ≡ part_at suite at bytes.now }
+    requires { at + P.suite.width ≤ length bytes.now }
+    ensures { result ≡ part_at P.suite at bytes.now }
 {
     let end = at + P::width();
     P::read(&bytes[at..end])
 }
 
 fn copy_at<P: Suite>(bytes: &[u8], at: usize, index: u32) -> SessionCopy<P>
-    requires { at + 4 * suite.width ≤ length bytes.now }
-    ensures { result ≡ copy_of suite index at bytes.now }
+    requires { at + 4 * P.suite.width ≤ length bytes.now }
+    ensures { result ≡ copy_of P.suite index at bytes.now }
 {
     let w = P::width();
     SessionCopy {
@@ -68,8 +68,8 @@ fn index_in(bytes: &[u8]) -> u32
 }
 
 fn named_in<P: Suite>(bytes: &[u8]) -> NamedCopy<P>
-    requires { length bytes.now ≡ copy_length suite }
-    ensures { result ≡ named_of suite bytes.now }
+    requires { length bytes.now ≡ copy_length P.suite }
+    ensures { result ≡ named_of P.suite bytes.now }
 {
     NamedCopy {
         id: id_at(bytes, 5 + 4 * P::width()),
@@ -78,7 +78,7 @@ fn named_in<P: Suite>(bytes: &[u8]) -> NamedCopy<P>
 }
 
 fn takes<P: Suite>(accepted: Accepted, byte: u8) -> bool
-    ensures { result ≡ accepts suite accepted byte }
+    ensures { result ≡ accepts P.suite accepted byte }
 {
     match accepted {
         Accepted::ShareOrExport => byte == P::share_byte() || byte == P::export_byte(),
@@ -88,7 +88,7 @@ fn takes<P: Suite>(accepted: Accepted, byte: u8) -> bool
 
 // The copy that some bytes are, or why they are none.
 pub fn read_copy<P: Suite>(bytes: &[u8], accepted: Accepted) -> Result<NamedCopy<P>, CopyFault>
-    ensures { result ≡ read_copy suite accepted bytes.now }
+    ensures { result ≡ read_copy P.suite accepted bytes.now }
 {
     if bytes.len() != copy_length::<P>() {
         return Err(CopyFault::Length);
@@ -102,7 +102,7 @@ pub fn read_copy<P: Suite>(bytes: &[u8], accepted: Accepted) -> Result<NamedCopy
 
 // The copy at index 0 whose four parts some bytes are.
 pub fn read_start<P: Suite>(bytes: &[u8]) -> Result<SessionCopy<P>, CopyFault>
-    ensures { result ≡ read_start suite bytes.now }
+    ensures { result ≡ read_start P.suite bytes.now }
 {
     if bytes.len() == 4 * P::width() {
         Ok(copy_at(bytes, 0, 0))

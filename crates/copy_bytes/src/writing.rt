@@ -12,13 +12,13 @@ use ratchet::suite::Suite;
 
 // How many bytes a copy takes.
 pub(crate) fn copy_length<P: Suite>() -> usize
-    ensures { result ≡ copy_length suite }
+    ensures { result ≡ copy_length P.suite }
 {
     37 + 4 * P::width()
 }
 
 fn byte_of<P: Suite>(version: Version) -> u8
-    ensures { result ≡ version_byte suite version }
+    ensures { result ≡ version_byte P.suite version }
 {
     match version {
         Version::Share => P::share_byte(),
@@ -27,8 +27,8 @@ fn byte_of<P: Suite>(version: Version) -> u8
 }
 
 fn lay_copy<P: Suite>(version: Version, named: &NamedCopy<P>, out: &mut [u8]) -> usize
-    requires { copy_length suite ≤ length out.old }
-    ensures { Put 0 (copy_bytes suite version named.now) out.old result out.new }
+    requires { copy_length P.suite ≤ length out.old }
+    ensures { Put 0 (copy_bytes P.suite version named.now) out.old result out.new }
 {
     let a = put_at(&[byte_of::<P>(version)], out, 0);
     let b = put_index(named.copy.index, out, a);
@@ -45,8 +45,8 @@ pub fn write_copy<P: Suite>(
     named: &NamedCopy<P>,
     out: &mut [u8],
 ) -> Result<usize, SpaceRefusal>
-    ensures value { result ≡ answered (copy_bytes suite version named.now) out.old }
-    ensures after { out.new ≡ filled (copy_bytes suite version named.now) out.old }
+    ensures value { result ≡ answered (copy_bytes P.suite version named.now) out.old }
+    ensures after { out.new ≡ filled (copy_bytes P.suite version named.now) out.old }
 {
     if out.len() < copy_length::<P>() {
         return Err(SpaceRefusal::TooSmall);

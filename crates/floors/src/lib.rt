@@ -1,2 +1,4 @@
 // A floor laid over any store.
+#![tactic(auto)]
+
 pub mod layer;

@@ -1,4 +1,6 @@
 // What any store takes in: copy bytes, and all that another store shows.
+#![tactic(auto)]
+
 pub mod merge;
 pub mod take_refusal;
 pub mod taking;

@@ -15,8 +15,8 @@ pub fn take_bytes<P: Suite, S: Store<Id, Holding<P>>>(
     store: &mut S,
     bytes: &[u8],
 ) -> Result<(), TakeRefusal>
-    ensures answer { result ≡ bytes-answer suite (means store.old) bytes.now }
-    ensures after { means store.new ≡ bytes-taken suite (means store.old) bytes.now }
+    ensures answer { result ≡ bytes-answer P.suite (means store.old) bytes.now }
+    ensures after { means store.new ≡ bytes-taken P.suite (means store.old) bytes.now }
     ensures steady { steady store.old store.new }
     ensures length { result ≡ Err Length → store.new ≡ store.old }
     ensures version { result ≡ Err Version → store.new ≡ store.old }

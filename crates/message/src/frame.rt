@@ -32,7 +32,7 @@ fn read_keyed(key: u8, bytes: &[u8]) -> Option<(u32, usize)>
 }
 
 fn starts_right<P: Suite>(message: &[u8]) -> bool
-    ensures { result ≡ starts suite message.now }
+    ensures { result ≡ starts P.suite message.now }
 {
     if message.is_empty() {
         return false;
@@ -44,7 +44,7 @@ fn starts_right<P: Suite>(message: &[u8]) -> bool
 fn read_cipher<P: Suite>(message: &[u8], index: u32, at: usize) -> Result<Frame, FrameFault>
     requires within { at ≤ length message.now }
     requires short { length message.now ≤ 4130 }
-    ensures { result ≡ cipher_at suite message.now index at }
+    ensures { result ≡ cipher_at P.suite message.now index at }
 {
     let Some((n, k)) = read_keyed(0x12, &message[at..]) else {
         return Err(FrameFault::Cipher);
@@ -63,7 +63,7 @@ fn read_cipher<P: Suite>(message: &[u8], index: u32, at: usize) -> Result<Frame,
 
 // Reads a message up to its cipher.
 pub fn read_frame<P: Suite>(message: &[u8]) -> Result<Frame, FrameFault>
-    ensures { result ≡ framed suite message.now }
+    ensures { result ≡ framed P.suite message.now }
 {
     if !starts_right::<P>(message) {
         return Err(FrameFault::Start);
@@ -76,7 +76,7 @@ pub fn read_frame<P: Suite>(message: &[u8]) -> Result<Frame, FrameFault>
 
 // A message is read as it was laid out.
 pub fn frame_law<P: Suite>() -> u8
-    ensures { FrameLaw suite }
+    ensures { FrameLaw P.suite }
 {
     0
 }

@@ -4,7 +4,7 @@ use ratchet::suite::Suite;
 
 // What a sender seals opens, by any copy of it that is not past the message.
 pub fn sealed_opens<P: Suite>() -> u8
-    ensures { Opens suite }
+    ensures { Opens P.suite }
 {
     0
 }

@@ -45,7 +45,7 @@ impl From<FrameFault> for OpenRefusal {
 
 // The shown copy, advanced to an index.
 fn held_at<P: Suite>(shown: Option<Holding<P>>, index: u32) -> Result<Advanced<P>, OpenRefusal>
-    ensures { result ≡ held_at suite shown index }
+    ensures { result ≡ held_at P.suite shown index }
 {
     match shown {
         Some(Holding::Held(copy)) => match advance(copy, index) {
@@ -71,11 +71,11 @@ fn check<P: Suite>(
     scratch: &mut [u8],
 ) -> Result<Opened, OpenRefusal>
     requires whole { length message.now ≡ frame.from + frame.size + 8 }
-    requires allowed { suite.allowed frame.size ≡ true }
+    requires allowed { P.suite.allowed frame.size ≡ true }
     requires short { frame.size ≤ 4116 }
     requires room { 4111 ≤ length scratch.old }
-    ensures value { result ≡ told (checked suite message.now frame there.now) }
-    ensures after { scratch.new ≡ text_over (checked suite message.now frame there.now) scratch.old }
+    ensures value { result ≡ told (checked P.suite message.now frame there.now) }
+    ensures after { scratch.new ≡ text_over (checked P.suite message.now frame there.now) scratch.old }
     ensures fits { IfOk result (λ o. o.size ≤ 4111) }
 {
     let from = frame.from;
@@ -100,8 +100,8 @@ pub fn unseal<P: Suite>(
     message: &[u8],
     scratch: &mut [u8; 4111],
 ) -> Result<Opened, OpenRefusal>
-    ensures value { result ≡ told (unsealed suite shown message.now) }
-    ensures after { scratch.new ≡ text_over (unsealed suite shown message.now) scratch.old }
+    ensures value { result ≡ told (unsealed P.suite shown message.now) }
+    ensures after { scratch.new ≡ text_over (unsealed P.suite shown message.now) scratch.old }
     ensures fits { IfOk result (λ o. o.size ≤ 4111) }
 {
     let frame = read_frame::<P>(message)?;

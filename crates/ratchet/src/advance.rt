@@ -42,7 +42,7 @@ fn part_of<P: Copy>(copy: SessionCopy<P>, level: Level) -> P
 
 // Hashes a part n times by one level's hash.
 fn hash_times<P: Suite>(level: Level, p: P, n: u32) -> P
-    ensures { result ≡ rep (suite.hash level) n p }
+    ensures { result ≡ rep (P.suite.hash level) n p }
 {
     let mut q = p;
     for _i in 0..n {
@@ -53,7 +53,7 @@ fn hash_times<P: Suite>(level: Level, p: P, n: u32) -> P
 
 // Each part from the level on becomes its own hash of p; the index is given.
 fn spread_over<P: Suite>(copy: SessionCopy<P>, level: Level, p: P, index: u32) -> SessionCopy<P>
-    ensures { result ≡ at index (spread suite.hash level p copy) }
+    ensures { result ≡ at index (spread P.suite.hash level p copy) }
 {
     let mut next = copy;
     next.index = index;
@@ -77,7 +77,7 @@ fn spread_over<P: Suite>(copy: SessionCopy<P>, level: Level, p: P, index: u32) -
 // One level of an advance, with its hashes.
 fn pass<P: Suite>(copy: SessionCopy<P>, level: Level, target: u32) -> (SessionCopy<P>, u32)
     requires { copy.index ≤ target }
-    ensures copy { result.0 ≡ passed suite.hash level target copy }
+    ensures copy { result.0 ≡ passed P.suite.hash level target copy }
     ensures within { result.0.index ≤ target }
     ensures hashes { result.1 ≡ price (span level) (count (unit level) copy.index target) }
 {
@@ -94,7 +94,7 @@ fn pass<P: Suite>(copy: SessionCopy<P>, level: Level, target: u32) -> (SessionCo
 // Takes a copy, level by level, to an index that is not lower.
 fn walk_to<P: Suite>(copy: SessionCopy<P>, target: u32) -> (SessionCopy<P>, u32)
     requires { copy.index ≤ target }
-    ensures copy { result.0 ≡ steps suite.hash (target - copy.index) copy }
+    ensures copy { result.0 ≡ steps P.suite.hash (target - copy.index) copy }
     ensures hashes { result.1 ≡ cost copy.index target }
 {
     let (a, w) = pass(copy, Level::L0, target);
@@ -106,7 +106,7 @@ fn walk_to<P: Suite>(copy: SessionCopy<P>, target: u32) -> (SessionCopy<P>, u32)
 
 // The copy that single steps to the target reach, and the hashes that it took.
 pub fn advance<P: Suite>(copy: SessionCopy<P>, target: u32) -> Result<Advanced<P>, AdvanceRefusal>
-    ensures { result ≡ advanced suite.hash copy target }
+    ensures { result ≡ advanced P.suite.hash copy target }
 {
     if target < copy.index {
         return Err(AdvanceRefusal::TargetBelow);
@@ -131,7 +131,7 @@ fn level_of(index: u32) -> Level
 
 // One single step; there is none from the last index.
 pub fn step<P: Suite>(copy: SessionCopy<P>) -> Option<SessionCopy<P>>
-    ensures { result ≡ stepped suite.hash copy }
+    ensures { result ≡ stepped P.suite.hash copy }
 {
     if copy.index == u32::MAX {
         return None;

@@ -6,7 +6,7 @@ use crate::copies::{Holding, SessionCopy};
 use crate::suite::Suite;
 
 fn equals<P: Suite>(a: SessionCopy<P>, b: SessionCopy<P>) -> bool
-    ensures { result ≡ equal suite a b }
+    ensures { result ≡ equal P.suite a b }
 {
     // `&` has no branch, so the proof has one way.
     let rest = a.r2.same(b.r2) & a.r3.same(b.r3);
@@ -15,7 +15,7 @@ fn equals<P: Suite>(a: SessionCopy<P>, b: SessionCopy<P>) -> bool
 
 // Whether the lower copy, stepped to the higher's index, equals it.
 fn leads_to<P: Suite>(low: SessionCopy<P>, high: SessionCopy<P>) -> bool
-    ensures { result ≡ reaches suite low high }
+    ensures { result ≡ reaches P.suite low high }
 {
     match advance(low, high.index) {
         Ok(there) => equals(there.copy, high),
@@ -25,7 +25,7 @@ fn leads_to<P: Suite>(low: SessionCopy<P>, high: SessionCopy<P>) -> bool
 
 // Joins two holdings: of two agreeing copies the lower, else the mark of a dispute.
 pub fn join_holdings<P: Suite>(a: Holding<P>, b: Holding<P>) -> Holding<P>
-    ensures { result ≡ join suite a b }
+    ensures { result ≡ join P.suite a b }
 {
     match (a, b) {
         (Holding::Held(x), Holding::Held(y)) => {
@@ -43,7 +43,7 @@ pub fn join_holdings<P: Suite>(a: Holding<P>, b: Holding<P>) -> Holding<P>
 
 // Raises a holding to a floor: a lower copy is advanced to it.
 pub fn raise_holding<P: Suite>(h: Holding<P>, floor: u32) -> Holding<P>
-    ensures { result ≡ raised suite floor h }
+    ensures { result ≡ raised P.suite floor h }
 {
     match h {
         Holding::Held(c) => match advance(c, floor) {

@@ -11,14 +11,14 @@ pub fn advance_cost() -> u8
 
 // Joining is associative, commutative and idempotent.
 pub fn join_laws<P: Suite>() -> u8
-    ensures { JoinLaws suite }
+    ensures { JoinLaws P.suite }
 {
     0
 }
 
 // Raising twice, and raising against joining.
 pub fn raise_laws<P: Suite>() -> u8
-    ensures { RaiseLaws suite }
+    ensures { RaiseLaws P.suite }
 {
     0
 }

@@ -1,4 +1,6 @@
 // The ratchet of a session and what is held of it, written once for every suite.
+#![tactic(auto)]
+
 pub mod advance;
 pub mod copies;
 pub mod holdings;

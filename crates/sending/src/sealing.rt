@@ -37,7 +37,7 @@ fn put_varint(v: u32, out: &mut [u8], at: usize) -> usize
 // Writes what stands before a cipher of n bytes.
 fn write_head<P: Suite>(index: u32, n: u32, out: &mut [u8]) -> usize
     requires { 13 ≤ length out.old }
-    ensures { Put 0 (head suite index n) out.old result out.new }
+    ensures { Put 0 (head P.suite index n) out.old result out.new }
 {
     let a = put_at(&[P::message_byte(), 0x08], out, 0);
     let b = put_varint(index, out, a);
@@ -53,8 +53,8 @@ fn write_parts<P: Suite>(
     out: &mut [u8],
 ) -> Result<usize, SpaceRefusal>
     requires { length front.now + length cipher.now ≤ 4125 }
-    ensures value { result ≡ answered (tagged suite copy.now (front.now ++ cipher.now)) out.old }
-    ensures after { out.new ≡ filled (tagged suite copy.now (front.now ++ cipher.now)) out.old }
+    ensures value { result ≡ answered (tagged P.suite copy.now (front.now ++ cipher.now)) out.old }
+    ensures after { out.new ≡ filled (tagged P.suite copy.now (front.now ++ cipher.now)) out.old }
 {
     if out.len() < front.len() + cipher.len() + 8 {
         return Err(SpaceRefusal::TooSmall);
@@ -72,8 +72,8 @@ fn write_message<P: Suite>(
     out: &mut [u8],
 ) -> Result<usize, SpaceRefusal>
     requires { length cipher.now ≤ 4112 }
-    ensures value { result ≡ answered (cipher_sealed suite copy.now cipher.now) out.old }
-    ensures after { out.new ≡ filled (cipher_sealed suite copy.now cipher.now) out.old }
+    ensures value { result ≡ answered (cipher_sealed P.suite copy.now cipher.now) out.old }
+    ensures after { out.new ≡ filled (cipher_sealed P.suite copy.now cipher.now) out.old }
 {
     let mut front = [0; 13];
     let size = write_head::<P>(copy.index, cipher.len() as u32, &mut front);
@@ -87,8 +87,8 @@ pub(crate) fn write_sealed<P: Suite>(
     out: &mut [u8],
 ) -> Result<usize, SpaceRefusal>
     requires { length text.now ≤ 4096 }
-    ensures value { result ≡ answered (sealed suite copy.now text.now) out.old }
-    ensures after { out.new ≡ filled (sealed suite copy.now text.now) out.old }
+    ensures value { result ≡ answered (sealed P.suite copy.now text.now) out.old }
+    ensures after { out.new ≡ filled (sealed P.suite copy.now text.now) out.old }
 {
     let mut cipher = [0; 4112];
     let n = P::encipher(copy, text, &mut cipher);

@@ -70,8 +70,8 @@ fn started<P: Copy>(id: Id, copy: SessionCopy<P>) -> Sender<P>
 impl<P: Suite> Sender<P> {
     // A sender at index 0, from the bytes of four parts.
     pub fn new(id: Id, start: &[u8]) -> Result<Sender<P>, CopyFault>
-        ensures value { result ≡ new-sender suite id start.now }
-        ensures kept { IfOk result (Kept suite) }
+        ensures value { result ≡ new-sender P.suite id start.now }
+        ensures kept { IfOk result (Kept P.suite) }
     {
         let copy = read_start(start)?;
         Ok(started(id, copy))
@@ -85,10 +85,10 @@ impl<P: Suite> Sender<P> {
 
     // Writes the message of a text at the current index, and steps; at the last index the sender is then spent.
     pub fn seal(&mut self, text: &[u8], out: &mut [u8]) -> Result<usize, SealRefusal>
-        ensures value { result ≡ seal-answer suite self.old text.now out.old }
-        ensures output { out.new ≡ seal-output suite self.old text.now out.old }
-        ensures after { self.new ≡ after-seal suite self.old text.now out.old }
-        ensures kept { Kept suite self.old → Kept suite self.new }
+        ensures value { result ≡ seal-answer P.suite self.old text.now out.old }
+        ensures output { out.new ≡ seal-output P.suite self.old text.now out.old }
+        ensures after { self.new ≡ after-seal P.suite self.old text.now out.old }
+        ensures kept { Kept P.suite self.old → Kept P.suite self.new }
     {
         if text.len() > 4096 {
             return Err(SealRefusal::TextTooLong);
@@ -107,9 +107,9 @@ impl<P: Suite> Sender<P> {
 
     // Writes the copy at an index that the sender has reached, from 0 on.
     pub fn share(&self, index: u32, out: &mut [u8]) -> Result<usize, ShareRefusal>
-        ensures value { result ≡ share-answer suite self.now index out.old }
-        ensures output { out.new ≡ share-output suite self.now index out.old }
-        ensures kept { Kept suite self.now → reached suite self.now index ≡ steps suite.hash index self.now.start }
+        ensures value { result ≡ share-answer P.suite self.now index out.old }
+        ensures output { out.new ≡ share-output P.suite self.now index out.old }
+        ensures kept { Kept P.suite self.now → reached P.suite self.now index ≡ steps P.suite.hash index self.now.start }
     {
         if index > self.index() {
             return Err(ShareRefusal::Ahead);
@@ -121,7 +121,7 @@ impl<P: Suite> Sender<P> {
 }
 
 fn copy_at<P: Suite>(start: SessionCopy<P>, index: u32) -> SessionCopy<P>
-    ensures { result ≡ steps suite.hash (index - start.index) start }
+    ensures { result ≡ steps P.suite.hash (index - start.index) start }
 {
     match advance(start, index) {
         Ok(there) => there.copy,

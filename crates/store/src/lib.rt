@@ -1,4 +1,6 @@
 // What a store means, its keys and values, and that a lent store is a store.
+#![tactic(auto)]
+
 pub mod keys;
 pub mod lent;
 pub mod meaning;

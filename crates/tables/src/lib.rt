@@ -1,3 +1,5 @@
 // The keyed table over slots that the caller lends, a store of sessions and of sightings alike.
+#![tactic(auto)]
+
 pub mod slots;
 pub mod table;
