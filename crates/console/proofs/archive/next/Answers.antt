@@ -6,19 +6,19 @@ use Rattle.script.specs.Words.{hex_word}
 use Rattle.console.proofs.Added.{twice, line_of}
 use Rattle.console.proofs.archive.next.Goals as goal
 
-pub returns-in-ok-add-id : goal.returns-in-ok-add-id
-returns-in-ok-add-id g c =
+pub returns-in_ok-add_id : goal.returns-in_ok-add_id
+returns-in_ok-add_id g c =
     let m = g.P.Suite.suite in
     let e = c.in-Some.e in
     let b = vec_items c.append.new.out in
-    let d = vec_items c.add-holding.new.out in
-    let r = c.add-holding.result in
+    let d = vec_items c.add_holding.new.out in
+    let r = c.add_holding.result in
     let id = 32 ∷ hex_word (id_bytes e.0) in
     let held = shown_holding m e.1 in
     line_of r (vec_items c.args.desk.now.answers) b d (codes "next") (id ++ held) _ (ap (next_line m) c.in-Some.ensures.value)
-    c.in-ok-append.ensures (twice r b (vec_items c.add-id.new.out) d id held c.in-ok-add-id.ensures c.add-holding.ensures)
+    c.in_ok-append.ensures (twice r b (vec_items c.add_id.new.out) d id held c.in_ok-add_id.ensures c.add_holding.ensures)
 
 pub returns-in-None : goal.returns-in-None
 returns-in-None g c =
-    line_of c.add-word.result (vec_items c.args.desk.now.answers) (vec_items c.append.new.out) (vec_items c.add-word.new.out) (codes "next")
-    (codes " none") _ (ap (next_line g.P.Suite.suite) c.in-None.ensures.value) c.in-ok-append.ensures c.add-word.ensures
+    line_of c.add_word.result (vec_items c.args.desk.now.answers) (vec_items c.append.new.out) (vec_items c.add_word.new.out) (codes "next")
+    (codes " none") _ (ap (next_line g.P.Suite.suite) c.in-None.ensures.value) c.in_ok-append.ensures c.add_word.ensures

@@ -6,6 +6,6 @@ use Rattle.console.proofs.printing.add_id.Goals as goal
 
 pub returns : goal.returns
 returns c =
-    same_word c.add-bytes.result (vec_items c.args.out.now) (vec_items c.add-bytes.new.out) _ (id_bytes c.args.id)
-    (filled_whole (id_bytes c.args.id) (replicate 32 0) _ (length_id c.args.id) c.write-id.ensures.after)
-    c.add-bytes.ensures
+    same_word c.add_bytes.result (vec_items c.args.out.now) (vec_items c.add_bytes.new.out) _ (id_bytes c.args.id)
+    (filled_whole (id_bytes c.args.id) (replicate 32 0) _ (length_id c.args.id) c.write_id.ensures.after)
+    c.add_bytes.ensures

@@ -6,5 +6,5 @@ pub returns : goal.returns
 returns c = record {
   within = c.requires;
   size = refl;
-  holds = placed_part c.args.at _ c.args.out.now c.copy-from-slice.new.self c.args.bytes.now c.copy-from-slice.ensures.after refl;
+  holds = placed_part c.args.at _ c.args.out.now c.copy_from_slice.new.self c.args.bytes.now c.copy_from_slice.ensures.after refl;
 }

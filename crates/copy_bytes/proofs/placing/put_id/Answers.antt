@@ -4,4 +4,4 @@ use Rattle.copy_bytes.proofs.placing.put_id.Goals as goal
 
 pub returns : goal.returns
 unfolding id_bytes
-returns c = put_join c.put-word-a.ensures (put_join c.put-word-b.ensures (put_join c.put-word-c.ensures c.put-word.ensures))
+returns c = put_join c.put_word-a.ensures (put_join c.put_word-b.ensures (put_join c.put_word-c.ensures c.put_word.ensures))

@@ -9,7 +9,7 @@ returns g c =
     let at = c.args.at in
     let bs = c.args.bytes.now in
     let w = c.width-w.ensures in
-    let e1 = c.part-at-2.ensures ∙ ap (λ n. part_at m (at + n) bs) w in
-    let e2 = c.part-at-3.ensures ∙ ap (λ n. part_at m (at + 2 * n) bs) w in
-    let e3 = c.part-at-4.ensures ∙ ap (λ n. part_at m (at + 3 * n) bs) w in
-    λ i. record { index = c.args.index; r0 = c.part-at.ensures i; r1 = e1 i; r2 = e2 i; r3 = e3 i }
+    let e1 = c.part_at-2.ensures ∙ ap (λ n. part_at m (at + n) bs) w in
+    let e2 = c.part_at-3.ensures ∙ ap (λ n. part_at m (at + 2 * n) bs) w in
+    let e3 = c.part_at-4.ensures ∙ ap (λ n. part_at m (at + 3 * n) bs) w in
+    λ i. record { index = c.args.index; r0 = c.part_at.ensures i; r1 = e1 i; r2 = e2 i; r3 = e3 i }

@@ -8,4 +8,4 @@ unfolding id_of
 returns c =
     let bs = c.args.bytes.now in
     let at = c.args.at in
-    id_path _ _ c.word-at.ensures (c.word-at-2.ensures ∙ ap word (sym (drop-drop 8 at bs))) (c.word-at-3.ensures ∙ ap word (sym (drop-drop 16 at bs))) (c.word-at-4.ensures ∙ ap word (sym (drop-drop 24 at bs)))
+    id_path _ _ c.word_at.ensures (c.word_at-2.ensures ∙ ap word (sym (drop-drop 8 at bs))) (c.word_at-3.ensures ∙ ap word (sym (drop-drop 16 at bs))) (c.word_at-4.ensures ∙ ap word (sym (drop-drop 24 at bs)))

@@ -7,6 +7,6 @@ use Rattle.copy_bytes.proofs.writing.lay_copy.Goals as goal
 pub returns : goal.returns
 unfolding copy_bytes part_bytes
 returns g c =
-    let version = subst (λ b. Put 0 (b ∷ []) c.args.out.now c.put-at-a.result c.put-at-a.new.out) c.byte-of.ensures c.put-at-a.ensures in
-    let parts = put_join c.put-part-c.ensures.put (put_join c.put-part-d.ensures.put (put_join c.put-part-e.ensures.put c.put-part-f.ensures.put)) in
-    put_join version (put_join c.put-index-b.ensures (put_join parts c.put-id.ensures))
+    let version = subst (λ b. Put 0 (b ∷ []) c.args.out.now c.put_at-a.result c.put_at-a.new.out) c.byte_of.ensures c.put_at-a.ensures in
+    let parts = put_join c.put_part-c.ensures.put (put_join c.put_part-d.ensures.put (put_join c.put_part-e.ensures.put c.put_part-f.ensures.put)) in
+    put_join version (put_join c.put_index-b.ensures (put_join parts c.put_id.ensures))

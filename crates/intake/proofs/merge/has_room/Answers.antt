@@ -4,7 +4,7 @@ use Rattle.store.proofs.Lookups.{next_less, first_none}
 use Rattle.intake.specs.Merging.{fresh}
 use Rattle.intake.proofs.Walking.{next_fresh}
 use Rattle.intake.proofs.merge.has_room.Goals as goal
-use Rattle.intake.proofs.merge.has_room.Goals.{then-is-none+else-left-eq0, else-is-none}
+use Rattle.intake.proofs.merge.has_room.Goals.{then-is_none+else-left-eq0, else-is_none}
 
 pub returns-then-left-eq0 : goal.returns-then-left-eq0
 returns-then-left-eq0 g c = record {
@@ -14,7 +14,7 @@ returns-then-left-eq0 g c = record {
       let s = (g.B.Store.means c.args.src.now).entries in
       let f = next_fresh g.K.Key.rank m.entries s c.loop-e.last c.in-Some.e c.in-Some.ensures.ascends c.in-Some.ensures.value in
       let i = c.loop-e.invariant in
-      let a = c.if-is-none.ensures in
+      let a = c.if-is_none.ensures in
       grind (arith, nat_tests);
 }
 
@@ -27,9 +27,9 @@ loop-e-preserved g c =
     let s = (g.B.Store.means c.args.src.now).entries in
     let f = next_fresh g.K.Key.rank m.entries s c.loop-e.last c.in-Some.e c.in-Some.ensures.ascends c.in-Some.ensures.value in
     let i = c.loop-e.invariant in
-    elim c.if-is-none.branch [
-      | then-is-none+else-left-eq0 w ↦ let a = w.if-is-none.ensures in let l = w.left-is in let n = w.if-left-eq0.false in grind (arith, nat_tests)
-      | else-is-none w ↦ let a = w.if-is-none.ensures in let l = w.left-is in grind (arith, nat_tests)
+    elim c.if-is_none.branch [
+      | then-is_none+else-left-eq0 w ↦ let a = w.if-is_none.ensures in let l = w.left-is in let n = w.if-left-eq0.false in grind (arith, nat_tests)
+      | else-is_none w ↦ let a = w.if-is_none.ensures in let l = w.left-is in grind (arith, nat_tests)
     ]
 
 pub returns : goal.returns
@@ -37,7 +37,7 @@ returns g c = record {
   ascends = c.free-left.ensures.ascends;
   value =
       let m = g.A.Store.means c.args.dst.now in
-      let e = ap (fresh g.K.Key.rank m.entries) (first_none _ c.in-default.ensures.value) in
+      let e = ap (fresh g.K.Key.rank m.entries) (first_none _ c.in_default.ensures.value) in
       let i = c.loop-e.invariant in
       grind (arith, nat_tests);
 }

@@ -3,17 +3,17 @@ use Rattle.std.proofs.lemmas.Bool.{cond-true, cond-false}
 use Rattle.message.proofs.Frames.{rest_fits, no_size, wrong_size, right_size}
 use Rattle.message.proofs.frame.read_cipher.Goals as goal
 
-pub returns-in-default : goal.returns-in-default
-returns-in-default g c = no_size g.P.Suite.suite c.args.message.now c.args.index c.args.at c.in-default.ensures
+pub returns-in_default : goal.returns-in_default
+returns-in_default g c = no_size g.P.Suite.suite c.args.message.now c.args.index c.args.at c.in_default.ensures
 
-pub overflow-add-from-2 : goal.overflow-add-from-2
-overflow-add-from-2 g c = omega (arith, rest_fits 18 c.args.at c.args.message.now c.in-Some.n c.in-Some.k c.in-Some.ensures, c.requires.short)
+pub overflow_add-from-2 : goal.overflow_add-from-2
+overflow_add-from-2 g c = omega (arith, rest_fits 18 c.args.at c.args.message.now c.in-Some.n c.in-Some.k c.in-Some.ensures, c.requires.short)
 
-pub overflow-add-from-3 : goal.overflow-add-from-3
-overflow-add-from-3 g c = omega (arith, rest_fits 18 c.args.at c.args.message.now c.in-Some.n c.in-Some.k c.in-Some.ensures, c.requires.short, c.type-inv.n)
+pub overflow_add-from-3 : goal.overflow_add-from-3
+overflow_add-from-3 g c = omega (arith, rest_fits 18 c.args.at c.args.message.now c.in-Some.n c.in-Some.k c.in-Some.ensures, c.requires.short, c.type_inv.n)
 
-pub overflow-add-from-4 : goal.overflow-add-from-4
-overflow-add-from-4 g c = omega (arith, rest_fits 18 c.args.at c.args.message.now c.in-Some.n c.in-Some.k c.in-Some.ensures, c.requires.short, c.type-inv.n)
+pub overflow_add-from-4 : goal.overflow_add-from-4
+overflow_add-from-4 g c = omega (arith, rest_fits 18 c.args.at c.args.message.now c.in-Some.n c.in-Some.k c.in-Some.ensures, c.requires.short, c.type_inv.n)
 
 pub returns-then-message-from : goal.returns-then-message-from
 returns-then-message-from g c =

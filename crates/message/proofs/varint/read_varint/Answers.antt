@@ -10,26 +10,26 @@ last-product : (c : goal.After-from) → c.loop-at.unit * c.from.result ≤ 3409
 last-product c =
     product c.loop-at.unit c.from.result (unit_small c.loop-at.at _ c.loop-at.invariant.1 c.if-at-ge5.false) (omega (arith, c.from.ensures, c.if-b-lt128.true))
 
-pub overflow-mul-v : goal.overflow-mul-v
-overflow-mul-v c = omega (arith, last-product c)
+pub overflow_mul-v : goal.overflow_mul-v
+overflow_mul-v c = omega (arith, last-product c)
 
-pub overflow-add-v : goal.overflow-add-v
-overflow-add-v c = omega (arith, last-product c, unit_small c.loop-at.at _ c.loop-at.invariant.1 c.if-at-ge5.false)
+pub overflow_add-v : goal.overflow_add-v
+overflow_add-v c = omega (arith, last-product c, unit_small c.loop-at.at _ c.loop-at.invariant.1 c.if-at-ge5.false)
 
 -- the product at a byte before the last
 more-product : (c : goal.After-from-in-loop-at) → c.loop-at.unit * c.from-in-loop-at.result ≤ 34091302912
 more-product c =
     product c.loop-at.unit c.from-in-loop-at.result (unit_small c.loop-at.at _ c.loop-at.invariant.1 c.if-at-ge5.false)
-    (omega (arith, c.from-in-loop-at.ensures, c.type-inv.bytes c.loop-at.at))
+    (omega (arith, c.from-in-loop-at.ensures, c.type_inv.bytes c.loop-at.at))
 
-pub overflow-mul-value : goal.overflow-mul-value
-overflow-mul-value c = omega (arith, more-product c)
+pub overflow_mul-value : goal.overflow_mul-value
+overflow_mul-value c = omega (arith, more-product c)
 
-pub overflow-add-value : goal.overflow-add-value
-overflow-add-value c = omega (arith, more-product c, unit_small c.loop-at.at _ c.loop-at.invariant.1 c.if-at-ge5.false)
+pub overflow_add-value : goal.overflow_add-value
+overflow_add-value c = omega (arith, more-product c, unit_small c.loop-at.at _ c.loop-at.invariant.1 c.if-at-ge5.false)
 
-pub overflow-mul-unit : goal.overflow-mul-unit
-overflow-mul-unit c = omega (arith, unit_small c.loop-at.at _ c.loop-at.invariant.1 c.if-at-ge5.false)
+pub overflow_mul-unit : goal.overflow_mul-unit
+overflow_mul-unit c = omega (arith, unit_small c.loop-at.at _ c.loop-at.invariant.1 c.if-at-ge5.false)
 
 pub loop-at-preserved : goal.loop-at-preserved
 loop-at-preserved c =
@@ -39,7 +39,7 @@ loop-at-preserved c =
     let xs = c.args.bytes.now in
     let b : ℕ = get_or xs k 0 in
     let d : ℕ = c.from-in-loop-at.result in
-    let d≤ : d ≤ 127 = omega (arith, c.from-in-loop-at.ensures, c.type-inv.bytes k) in (
+    let d≤ : d ≤ 127 = omega (arith, c.from-in-loop-at.ensures, c.type_inv.bytes k) in (
       omega arith,
       unit_more k u c.loop-at.invariant.1,
       omega (arith, mul-le-mul {n₁ = u} {m₁ = d} {n₂ = u} {m₂ = 127} (omega arith) d≤, c.loop-at.invariant.2),

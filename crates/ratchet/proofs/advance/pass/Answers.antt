@@ -11,6 +11,6 @@ pub returns : goal.returns
 returns g c =
     let s =
     pass_goes g.P.Suite.suite.hash c.args.level c.args.target _ _ _ _ c.args.copy _
-    c.unit_of-unit.ensures c.if-turns-eq0.false c.part_of.ensures c.hash_times-p.ensures c.spread_over-moved.ensures c.span-of.ensures in
+    c.unit_of-unit.ensures c.if-turns-eq0.false c.part_of.ensures c.hash_times-p.ensures c.spread_over-moved.ensures c.span_of.ensures in
     let le = passed_le g.P.Suite.suite.hash c.args.level c.args.target c.args.copy c.requires in
     record { copy = s.0; within = omega (arith, ap (λ x. x.index) s.0); hashes = s.1 }

@@ -2,7 +2,7 @@ use Rattle.std.proofs.Common.{arith}
 use Rattle.ratchet.proofs.Passes.{walked, cost_le}
 use Rattle.ratchet.proofs.advance.walk_to.Goals as goal
 
-pub overflow_add-result-3 : goal.overflow-add-result-3
+pub overflow_add-result-3 : goal.overflow_add-result-3
 overflow_add-result-3 g c =
     let s =
     walked g.P.Suite.suite.hash c.args.copy _ _ _ _ c.args.target _ _ _ _ c.requires

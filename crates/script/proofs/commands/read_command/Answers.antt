@@ -9,13 +9,13 @@ pub returns-in-Some-back : goal.returns-in-Some-back
 returns-in-Some-back c =
     let line = c.args.line.now in
     let rest = c.in-Some-back.rest.now in
-    let cut = c.cut-at-first-cut in
+    let cut = c.cut_at_first-cut in
     let whole = cut_whole 32 line cut.result.front.now rest (option_map (λ x. x.now) cut.result.back) cut.ensures.front cut.ensures.back (ap (option_map (λ x. x.now)) c.in-Some-back.is) in
-    made_of command_line c.read-with.result line (spaced (verb_word c.in-Some.verb) rest) (whole ∙ ap (λ w. spaced w rest) c.in-Some.ensures) c.read-with.ensures
+    made_of command_line c.read_with.result line (spaced (verb_word c.in-Some.verb) rest) (whole ∙ ap (λ w. spaced w rest) c.in-Some.ensures) c.read_with.ensures
 
 pub returns-in-None : goal.returns-in-None
 returns-in-None c =
     let line = c.args.line.now in
-    let cut = c.cut-at-first-cut in
+    let cut = c.cut_at_first-cut in
     let whole = uncut 32 line (sym (ap (option_map (λ x. x.now)) c.in-None.is) ∙ cut.ensures.back) in
-    made_of command_line c.read-lone.result line (verb_word c.in-Some.verb) (whole ∙ sym cut.ensures.front ∙ c.in-Some.ensures) c.read-lone.ensures
+    made_of command_line c.read_lone.result line (verb_word c.in-Some.verb) (whole ∙ sym cut.ensures.front ∙ c.in-Some.ensures) c.read_lone.ensures

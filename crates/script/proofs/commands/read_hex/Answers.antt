@@ -3,4 +3,4 @@ use Rattle.script.proofs.Rereads.{made_bytes}
 use Rattle.script.proofs.commands.read_hex.Goals as goal
 
 pub returns : goal.returns
-returns c = made_bytes vec_items c.read-bytes.result c.args.word.now _ c.read-bytes.ensures
+returns c = made_bytes vec_items c.read_bytes.result c.args.word.now _ c.read_bytes.ensures

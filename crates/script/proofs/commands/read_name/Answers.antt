@@ -6,5 +6,5 @@ use Rattle.script.proofs.commands.read_name.Goals as goal
 pub returns-in-Ok : goal.returns-in-Ok
 returns-in-Ok c =
     let w = c.args.word.now in
-    let bs = vec_items c.in-ok-bytes.bytes in
-    written_id w bs c.in-Ok.id (written_bytes w bs (sym c.in-ok-bytes.ensures)) (c.in-Ok.ensures ∙ ap read_id c.deref.ensures.value)
+    let bs = vec_items c.in_ok-bytes.bytes in
+    written_id w bs c.in-Ok.id (written_bytes w bs (sym c.in_ok-bytes.ensures)) (c.in-Ok.ensures ∙ ap read_id c.deref.ensures.value)

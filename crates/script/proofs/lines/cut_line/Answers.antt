@@ -4,5 +4,5 @@ use Rattle.script.proofs.lines.cut_line.Goals as goal
 
 pub returns : goal.returns
 returns c =
-    let cut = c.cut-at-first in
+    let cut = c.cut_at_first in
     record { front = cut.ensures.front; back = cut.ensures.back; less = line_less (option_map (λ x. x.now) cut.result.back) c.args.text.now cut.ensures.back }

@@ -7,9 +7,9 @@ loop-c-preserved c =
     let e = one_more c.args.limit c.loop-c.value c.in-Some.longer c.loop-c.c-index c.args.word.now c.loop-c-test.true c.in-Some.ensures in
     (sym e.0 ∙ c.loop-c.invariant.0, e.1)
 
-pub returns-in-default : goal.returns-in-default
-returns-in-default c =
-    sym (no_more c.args.limit c.loop-c.value c.loop-c.c-index c.args.word.now c.loop-c-test.true c.in-default.ensures) ∙ c.loop-c.invariant.0
+pub returns-in_default : goal.returns-in_default
+returns-in_default c =
+    sym (no_more c.args.limit c.loop-c.value c.loop-c.c-index c.args.word.now c.loop-c-test.true c.in_default.ensures) ∙ c.loop-c.invariant.0
 
 pub returns : goal.returns
 returns c =

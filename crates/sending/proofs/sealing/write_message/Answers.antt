@@ -10,8 +10,8 @@ returns g c =
     let copy = c.args.copy.now in
     let cipher = c.args.cipher.now in
     let out = c.args.out.now in
-    let e = put_front c.write-head-size.ensures in
+    let e = put_front c.write_head-size.ensures in
     record {
-      value = c.write-parts.ensures.value ∙ ap (λ xs. answered (tagged m copy (xs ++ cipher)) out) e;
-      after = c.write-parts.ensures.after ∙ ap (λ xs. filled (tagged m copy (xs ++ cipher)) out) e;
+      value = c.write_parts.ensures.value ∙ ap (λ xs. answered (tagged m copy (xs ++ cipher)) out) e;
+      after = c.write_parts.ensures.after ∙ ap (λ xs. filled (tagged m copy (xs ++ cipher)) out) e;
     }

@@ -15,5 +15,5 @@ returns-then-out-front g c =
 
 pub returns : goal.returns
 returns g c =
-    let f = put_answered (tagged_pieces g.P.Suite.suite c.args.copy.now c.put-at-a.ensures c.put-at-b.ensures c.tag-tag.ensures c.put-at.ensures) in
+    let f = put_answered (tagged_pieces g.P.Suite.suite c.args.copy.now c.put_at-a.ensures c.put_at-b.ensures c.tag-tag.ensures c.put_at.ensures) in
     record { value = f.0; after = f.1 }

@@ -13,6 +13,6 @@ returns g c =
     let out = c.args.out.now in
     let e = laid_front c.encipher-n.result (m.cipher (parts copy) c.args.text.now) _ c.encipher-n.new.out c.encipher-n.ensures.value c.encipher-n.ensures.after in
     record {
-      value = c.write-message.ensures.value ∙ ap (λ xs. answered (cipher_sealed m copy xs) out) e;
-      after = c.write-message.ensures.after ∙ ap (λ xs. filled (cipher_sealed m copy xs) out) e;
+      value = c.write_message.ensures.value ∙ ap (λ xs. answered (cipher_sealed m copy xs) out) e;
+      after = c.write_message.ensures.after ∙ ap (λ xs. filled (cipher_sealed m copy xs) out) e;
     }

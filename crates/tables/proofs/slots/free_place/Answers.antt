@@ -11,7 +11,7 @@ returns-in-Free g c =
 pub loop-i-preserved : goal.loop-i-preserved
 loop-i-preserved g c =
     sought_more is_free c.args.slots.now c.loop-i.i c.index-slots-i.result c.loop-i-test.true c.index-slots-i.is
-    (ap is_free c.in-default.is) c.loop-i.invariant
+    (ap is_free c.in_default.is) c.loop-i.invariant
 
 pub returns : goal.returns
 returns g c = sought_all is_free c.args.slots.now c.loop-i.i c.loop-i-test.false c.loop-i.invariant

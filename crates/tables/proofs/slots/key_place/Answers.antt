@@ -2,7 +2,7 @@ use Rattle.std.proofs.Common.{sym, ap, ◌∙◌}
 use Rattle.tables.specs.Slots.{has_key}
 use Rattle.tables.proofs.Places.{sought_more, sought_hit, sought_all}
 use Rattle.tables.proofs.slots.key_place.Goals as goal
-use Rattle.tables.proofs.slots.key_place.Goals.{in-Held+else-same, in-default}
+use Rattle.tables.proofs.slots.key_place.Goals.{in-Held+else-same, in_default}
 
 pub returns-then-same : goal.returns-then-same
 returns-then-same g c =
@@ -16,7 +16,7 @@ loop-i-preserved g c =
     let on = sought_more test c.args.slots.now c.loop-i.i c.index-slots-i.result c.loop-i-test.true c.index-slots-i.is in
     elim c.match-slot.branch [
       | in-Held+else-same w ↦ on (ap test w.in-Held.is ∙ sym w.if-same.ensures) c.loop-i.invariant
-      | in-default w ↦ on (ap test w.in-default.is) c.loop-i.invariant
+      | in_default w ↦ on (ap test w.in_default.is) c.loop-i.invariant
     ]
 
 pub returns : goal.returns

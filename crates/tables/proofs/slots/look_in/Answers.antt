@@ -7,8 +7,8 @@ use Rattle.tables.proofs.slots.look_in.Goals as goal
 pub bounds-slots-i : goal.bounds-slots-i
 bounds-slots-i g c = (place_at (has_key g.K.Key.rank c.args.key) _ _ c.in-Some.ensures).within
 
-pub offset-bounds-slots-i : goal.offset-bounds-slots-i
-offset-bounds-slots-i g c =
+pub offset_bounds-slots-i : goal.offset_bounds-slots-i
+offset_bounds-slots-i g c =
     let h : c.in-Some.i < length c.args.slots.now = (place_at (has_key g.K.Key.rank c.args.key) _ _ c.in-Some.ensures).within in
     search rules
 
@@ -16,7 +16,7 @@ pub returns-in-Some : goal.returns-in-Some
 returns-in-Some g c =
     let slots = c.args.slots.now in
     let x = c.index-slots-i.result in
-    c.value-of.ensures
+    c.value_of.ensures
     ∙ hit_shown g.K.Key.rank slots c.args.key x
     (place_read (has_key g.K.Key.rank c.args.key) slots c.in-Some.i x c.in-Some.ensures c.index-slots-i.is)
 

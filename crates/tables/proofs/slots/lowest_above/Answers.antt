@@ -3,7 +3,7 @@ use Rattle.std.proofs.lemmas.List.{drop_all}
 use Rattle.tables.specs.Search.{lowest}
 use Rattle.tables.proofs.Places.{step}
 use Rattle.tables.proofs.slots.lowest_above.Goals as goal
-use Rattle.tables.proofs.slots.lowest_above.Goals.{in-Held, in-default}
+use Rattle.tables.proofs.slots.lowest_above.Goals.{in-Held, in_default}
 
 pub loop-slot-preserved : goal.loop-slot-preserved
 loop-slot-preserved g c =
@@ -12,8 +12,8 @@ loop-slot-preserved g c =
     let at = step c.args.slots.now i c.slot-item.result in
     let rest = drop (i + 1) c.args.slots.now in
     elim c.match-slot.branch [
-      | in-Held w ↦ ap (λ b. lowest g.K.Key.rank c.args.last b rest) (w.best-is ∙ w.lower-of-best.ensures) ∙ sym (ap left (at _ c.loop-slot-test.true c.slot-item.is w.in-Held.is)) ∙ c.loop-slot.invariant
-      | in-default w ↦ ap (λ b. lowest g.K.Key.rank c.args.last b rest) w.best-is ∙ sym (ap left (at _ c.loop-slot-test.true c.slot-item.is w.in-default.is)) ∙ c.loop-slot.invariant
+      | in-Held w ↦ ap (λ b. lowest g.K.Key.rank c.args.last b rest) (w.best-is ∙ w.lower_of-best.ensures) ∙ sym (ap left (at _ c.loop-slot-test.true c.slot-item.is w.in-Held.is)) ∙ c.loop-slot.invariant
+      | in_default w ↦ ap (λ b. lowest g.K.Key.rank c.args.last b rest) w.best-is ∙ sym (ap left (at _ c.loop-slot-test.true c.slot-item.is w.in_default.is)) ∙ c.loop-slot.invariant
     ]
 
 pub returns : goal.returns

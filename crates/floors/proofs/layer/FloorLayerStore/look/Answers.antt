@@ -6,4 +6,4 @@ use Rattle.floors.proofs.layer.FloorLayerStore.look.Goals as goal
 pub returns : goal.returns
 returns g c =
     let up = g.row.V-Value.raise c.args.self.now.floor in
-    c.raised-value.ensures ∙ ap (option_map up) c.look.ensures ∙ sym (each_found g.K.Key.rank up (g.T.Store.means c.args.self.now.below).entries c.args.key)
+    c.raised_value.ensures ∙ ap (option_map up) c.look.ensures ∙ sym (each_found g.K.Key.rank up (g.T.Store.means c.args.self.now.below).entries c.args.key)

@@ -7,8 +7,8 @@ pub returns : goal.returns
 returns g c =
     let m = g.P.Suite.suite in
     record {
-      value = ap Ok c.started.ensures ∙ ap (from_start c.args.id) c.in-ok-copy.ensures;
+      value = ap Ok c.started.ensures ∙ ap (from_start c.args.id) c.in_ok-copy.ensures;
       kept =
           subst (Kept m) (sym c.started.ensures)
-          (new_kept m c.args.id c.args.start.now c.in-ok-copy.copy c.in-ok-copy.ensures);
+          (new_kept m c.args.id c.args.start.now c.in_ok-copy.copy c.in_ok-copy.ensures);
     }
