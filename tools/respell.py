@@ -12,7 +12,7 @@ import glob
 import re
 import sys
 
-DECLARED = re.compile(r"^(?:\s+pub |(?:abbrev |unfoldable )*(?:pub )?(?:record |data |ruleset |abbrev |unfoldable )*)([^\s(){}.,;:]+)(?=[^=]*? : )")
+DECLARED = re.compile(r"^\s*(?:(?:abbrev |unfoldable |pub |ruleset )*([^\s(){}.,;:]+)(?= : )|(?:pub |record |data )+([^\s(){}.,;:]+) )")
 TOKEN = re.compile(r"[^\s(){}\[\].,;:`\"/]+")
 
 
@@ -27,13 +27,24 @@ def sources():
     return sorted(glob.glob("crates/*/specs/**/*.antt", recursive=True) + glob.glob("crates/*/proofs/**/*.antt", recursive=True))
 
 
+def code():
+    return sorted(glob.glob("crates/*/src/**/*.rt", recursive=True))
+
+
 def declared():
     names = set()
+    for path in code():
+        for line in open(path, encoding="utf-8"):
+            if line.startswith("ghost use "):
+                names.update(re.findall(r" as ([a-z][\w'-]*)", line))
     for path in sources():
         for line in open(path, encoding="utf-8"):
             m = DECLARED.match(line)
-            if m and not re.search(r": goal\.", line) and re.match(r"[A-Za-z]", m.group(1)):
-                names.add(m.group(1))
+            name = m and (m.group(1) or m.group(2))
+            if name and not re.search(r": goal\.", line) and re.match(r"[A-Za-z]", name):
+                names.add(name)
+            if re.match(r"use ", line):
+                names.update(re.findall(r" as ([a-z][\w'-]*)", line))
     return names
 
 
@@ -43,23 +54,23 @@ def tokens(text):
 
 def functions():
     """The names of src/'s functions: a lemma that would have one of them ends in _lem."""
-    text = "".join(open(p, encoding="utf-8").read() for p in glob.glob("crates/*/src/**/*.rt", recursive=True))
+    text = "".join(open(p, encoding="utf-8").read() for p in code())
     return set(re.findall(r"\bfn (\w+)", text))
 
 
 def stated():
     """What specs/ declares, which keeps the plain name."""
-    return {m.group(1) for p in sources() if "/specs/" in p for line in open(p, encoding="utf-8") if (m := DECLARED.match(line))}
+    return {m.group(1) or m.group(2) for p in sources() if "/specs/" in p for line in open(p, encoding="utf-8") if (m := DECLARED.match(line))}
 
 
 def main():
     pages = ["README.md"] + sorted(glob.glob("docs/*.md"))
-    paths = sources() + sorted(glob.glob("crates/*/src/**/*.rt", recursive=True)) + pages
+    paths = sources() + code() + pages
     texts = {p: open(p, encoding="utf-8").read() for p in paths}
     names = declared()
     turn = {n: respelled(n) for n in names if respelled(n) != n}
-    code, plain = functions(), stated()
-    turn = {n: t + "_lem" if t in code and n not in plain else t for n, t in turn.items()}
+    called, plain = functions(), stated()
+    turn = {n: t + "_lem" if t in called and n not in plain else t for n, t in turn.items()}
     everything = set().union(*(tokens(t) for t in texts.values()))
     for n, to in sorted(turn.items()):
         clash = [o for o in turn if o != n and turn[o] == to]

@@ -1,7 +1,7 @@
 -- Copy bytes: their length, that they are bytes, and how they are read.
 use Rattle.std.proofs.Common.{◌≡◌, ℕ, ◌+◌, ◌*◌, List, ◌++◌, length, take, drop, ap, ◌∙◌, arith, length-append}
 use Rattle.std.specs.Int.Digits.{number_from_digits}
-use Rattle.std.specs.List.{AllByRecursion as All}
+use Rattle.std.specs.List.{AllByRecursion}
 use Rattle.std.proofs.ByRecursion.{All-append}
 use Rattle.ratchet.specs.declared.copies.SessionCopy.{SessionCopy}
 use Rattle.ratchet.specs.declared.ids.Id.{Id}
@@ -33,23 +33,23 @@ module _ {P : Type 0} (m : Meaning P) (laws : Lawful m) where
       let k = length_id n.id in
       omega arith
 
-  byte-version : (v : Version) → Byte (version_byte m v)
-  byte-version Share = laws.formats.1
-  byte-version Export = laws.formats.2
+  byte_version : (v : Version) → Byte (version_byte m v)
+  byte_version Share = laws.formats.1
+  byte_version Export = laws.formats.2
 
-  bytes-parts : (c : SessionCopy P) → All Byte (part_bytes m c)
+  bytes_parts : (c : SessionCopy P) → AllByRecursion Byte (part_bytes m c)
   unfolding part_bytes
-  bytes-parts c =
-      let e : (p : P) → All Byte (m.encode p) = λ p. (laws.encoded p).1 in
+  bytes_parts c =
+      let e : (p : P) → AllByRecursion Byte (m.encode p) = λ p. (laws.encoded p).1 in
       let low = m.encode c.r2 ++ m.encode c.r3 in
       let lows = All-append Byte (m.encode c.r2) (m.encode c.r3) (e c.r2) (e c.r3) in
       All-append Byte (m.encode c.r0) (m.encode c.r1 ++ low) (e c.r0) (All-append Byte (m.encode c.r1) low (e c.r1) lows)
 
-  pub bytes_copy : (v : Version) (n : NamedCopy P) → All Byte (copy_bytes m v n)
+  pub bytes_copy : (v : Version) (n : NamedCopy P) → AllByRecursion Byte (copy_bytes m v n)
   unfolding copy_bytes
   bytes_copy v n =
-      let rest = All-append Byte (part_bytes m n.copy) (id_bytes n.id) (bytes-parts n.copy) (bytes_id n.id) in
-      (byte-version v, All-append Byte (be 4 n.copy.index) (part_bytes m n.copy ++ id_bytes n.id) (under_be 4 n.copy.index) rest)
+      let rest = All-append Byte (part_bytes m n.copy) (id_bytes n.id) (bytes_parts n.copy) (bytes_id n.id) in
+      (byte_version v, All-append Byte (be 4 n.copy.index) (part_bytes m n.copy ++ id_bytes n.id) (under_be 4 n.copy.index) rest)
 
 -- what the code reads, with its own names for the width w and the index i
 pub named_read : {P : Type 0} (m : Meaning P) (bs : List ℕ) (w i : ℕ) (id : Id) (copy : SessionCopy P) → w ≡ m.width → i ≡ number_from_digits 256 (take 4 (drop 1 bs))

@@ -5,7 +5,7 @@ use mathlib.Core.HLevel.{is_prop→PathP}
 use native.Mathlib.Bridge.{le_prop}
 use lib.Arith.{digits_div, digits_mod}
 use Rattle.std.specs.Int.Digits.{number_from_digits_after, number_from_digits, AllBelowBase}
-use Rattle.std.specs.List.{AllByRecursion as All}
+use Rattle.std.specs.List.{AllByRecursion}
 use Rattle.std.proofs.ByRecursion.{All-take, All-drop, All-append}
 use Rattle.std.proofs.lemmas.Int.Digits.{number_lt, number_more}
 use Rattle.ratchet.specs.declared.ids.Id.{Id}
@@ -17,7 +17,7 @@ pub length_id : (k : Id) → length (id_bytes k) ≡ 32
 unfolding id_bytes
 length_id k = refl
 
-pub bytes_id : (k : Id) → All Byte (id_bytes k)
+pub bytes_id : (k : Id) → AllByRecursion Byte (id_bytes k)
 unfolding id_bytes
 bytes_id k =
     let low = be 8 k.w2 ++ be 8 k.w3 in
@@ -47,9 +47,9 @@ pub id_back : (k : Id) → id_of (id_bytes k) ≡ k
 unfolding id_of id_bytes
 id_back k = id_path (id_of (id_bytes k)) k (word_back k.w0 k.fits0) (word_back k.w1 k.fits1) (word_back k.w2 k.fits2) (word_back k.w3 k.fits3)
 
-module _ (bs : List ℕ) (long : length bs ≡ 32) (bytes : All Byte bs) where
-  word-forth : (i : ℕ) → i + 8 ≤ 32 → be 8 (word (drop i bs)) ≡ take 8 (drop i bs)
-  word-forth i h =
+module _ (bs : List ℕ) (long : length bs ≡ 32) (bytes : AllByRecursion Byte bs) where
+  word_forth : (i : ℕ) → i + 8 ≤ 32 → be 8 (word (drop i bs)) ≡ take 8 (drop i bs)
+  word_forth i h =
       let xs = take 8 (drop i bs) in
       let l : length xs ≡ 8 = simp (length-take, length-drop) (omega arith) in
       let u : AllBelowBase 256 xs = All-take Byte 8 (drop i bs) (All-drop Byte i bs bytes) in
@@ -64,7 +64,7 @@ module _ (bs : List ℕ) (long : length bs ≡ 32) (bytes : All Byte bs) where
   pub id_forth : id_bytes (id_of bs) ≡ bs
   unfolding id_of id_bytes
   id_forth =
-      (λ i. word-forth 0 (omega arith) i ++ (word-forth 8 (omega arith) i ++ (word-forth 16 (omega arith) i ++ word-forth 24 (omega arith) i)))
+      (λ i. word_forth 0 (omega arith) i ++ (word_forth 8 (omega arith) i ++ (word_forth 16 (omega arith) i ++ word_forth 24 (omega arith) i)))
       ∙ sym (cut 0 (cut 8 (cut 16 last)))
 
 -- a word's bytes behind a number

@@ -11,7 +11,7 @@ use ratchet::ids::Id;
 use ratchet::suite::Suite;
 
 // How many bytes a copy takes.
-pub(crate) fn copy_length<P: Suite>() -> usize
+pub fn copy_length<P: Suite>() -> usize
     ensures { result ≡ copy_length P.suite }
 {
     37 + 4 * P::width()

@@ -30,9 +30,9 @@ pub data Row : Type 0 where
   -- an advance from one index to another, and its hashes or its refusal
   advance : ℕ → ℕ → Result ℕ ℕ → Row
   -- the part R3 that one step from four zero parts makes
-  one-step : ℕ → Row
+  one_step : ℕ → Row
   -- a number and its varint, each from the other
-  in-groups : ℕ → List ℕ → Row
+  in_groups : ℕ → List ℕ → Row
   -- a text, and the message that four zero parts seal for it at index 0
   seals : List ℕ → List ℕ → Row
   -- a message, and the text or the refusal that four zero parts held at index 0 give
@@ -78,8 +78,8 @@ opened_text u = let out = 0 ∷ 0 ∷ 0 ∷ 0 ∷ [] in text_of (opened u out) (
 
 abbrev pub holds : Row → Bool
 holds (advance from to answer) = same_result nat_eq (hashes_of (advanced bench.hash (copy from 0) to)) answer
-holds (one-step r3) = is_some (λ c. nat_eq c.r3.value r3) (stepped bench.hash (copy 0 0))
-holds (in-groups n bytes) = bytes_eq (varint n) bytes && is_some (λ read. nat_eq read.0 n) (read_varint bytes)
+holds (one_step r3) = is_some (λ c. nat_eq c.r3.value r3) (stepped bench.hash (copy 0 0))
+holds (in_groups n bytes) = bytes_eq (varint n) bytes && is_some (λ read. nat_eq read.0 n) (read_varint bytes)
 holds (seals text message) = bytes_eq (sealed bench (copy 0 0) text) message
 holds (opens message answer) = same_result bytes_eq (opened_text (unsealed bench (holdings (Held (copy 0 0) ∷ [])) message)) answer
 holds (held hs h) = is_some (same_holding h) (holdings hs)

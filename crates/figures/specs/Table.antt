@@ -4,7 +4,7 @@ use Rattle.ratchet.specs.declared.copies.Holding.TheVariants.{Held, Disputed}
 use Rattle.ratchet.specs.Ratchet.{steps}
 use Rattle.store.specs.declared.sighting.Sighting.TheVariants.{Event, Repeated}
 use Rattle.bench_suite.specs.Bench.{bench}
-use Rattle.figures.specs.Rows.{Row, advance, one-step, in-groups, seals, opens, held, sighted, copy, holds}
+use Rattle.figures.specs.Rows.{Row, advance, one_step, in_groups, seals, opens, held, sighted, copy, holds}
 
 -- the text "up"
 abbrev pub up : List ℕ
@@ -22,11 +22,11 @@ table = advance 0 300 (Ok 46)
     ∷ advance 0x105 0x202 (Ok 4)
     ∷ advance 7 7 (Ok 0)
     ∷ advance 8 7 (Err 21)
-    ∷ one-step 0x9E3779B97F4A7C16
+    ∷ one_step 0x9E3779B97F4A7C16
     ∷ seals up (up_message (0x00 ∷ []) 0x10)
     ∷ opens (up_message (0x00 ∷ []) 0x10) (Ok up)
     ∷ opens (up_message (0x00 ∷ []) 0x11) (Err 14)
-    ∷ in-groups 300 (0xAC ∷ 0x02 ∷ [])
+    ∷ in_groups 300 (0xAC ∷ 0x02 ∷ [])
     ∷ opens (up_message (0x80 ∷ 0x00 ∷ []) 0x10) (Err 8)
     -- an agreeing copy at 0 after one at 5
     ∷ held (Held (steps bench.hash 5 (copy 0 0)) ∷ Held (copy 0 0) ∷ []) (Held (copy 0 0))

@@ -26,15 +26,15 @@ module _ {K V : Type 0} (rank : K → ℕ) (f : V → V) where
   each_first [] (Some k) = refl
   each_first (e ∷ m) (Some k) = elim (cases_Bool (ltb (rank k) (rank e.0))) [ inl y ↦ rw y | inr y ↦ rw y (each_first m (Some k)) ]
 
-  each-put : (join : V → V → V) (m : List (K × V)) (k : K) (w x : V) → f w ≡ x → ((a : V) → f (join a w) ≡ join (f a) x) →
+  each_put : (join : V → V → V) (m : List (K × V)) (k : K) (w x : V) → f w ≡ x → ((a : V) → f (join a w) ≡ join (f a) x) →
       each f (put rank join m k w) ≡ put rank join (each f m) k x
-  each-put join [] k w x e h = ap (λ y. (k, y) ∷ []) e
-  each-put join (d ∷ m) k w x e h =
+  each_put join [] k w x e h = ap (λ y. (k, y) ∷ []) e
+  each_put join (d ∷ m) k w x e h =
       elim (cases_Bool (ltb (rank k) (rank d.0))) [
         | inl y ↦ rw y (ap (λ z. (k, z) ∷ (d.0, f d.1) ∷ each f m) e)
         | inr y ↦ elim (cases_Bool (eqb (rank d.0) (rank k))) [
           | inl z ↦ rw (y, z) (ap (λ u. (k, u) ∷ each f m) (h d.1))
-          | inr z ↦ rw (y, z) (ap (λ u. (d.0, f d.1) ∷ u) (each-put join m k w x e h))
+          | inr z ↦ rw (y, z) (ap (λ u. (d.0, f d.1) ∷ u) (each_put join m k w x e h))
         ]
       ]
 
@@ -55,7 +55,7 @@ module _ {K V : Type 0} (rank : K → ℕ) (join : V → V → V) (raise : ℕ �
       let both : raise f (raise g v) ≡ x = laws.twice f g v in
       let again : raise f w ≡ x = laws.twice f g (raise f v) ∙ laws.twice (max f g) f v ∙ ap (λ n. raise n v) (omega arith) in
       let joins : (a : V) → raise f (join a w) ≡ join (raise f a) x = λ a. ap (λ y. raise f (join a y)) swap ∙ laws.under f a (raise g v) ∙ ap (join (raise f a)) both in
-      let puts = each-put rank (raise f) join m.entries k w x again joins in
+      let puts = each_put rank (raise f) join m.entries k w x again joins in
       elim (cases_Bool (room rank m k)) [
         | inl y ↦ rw (held_same, y) (ap (of (max f g) (cond (is_some (looked rank m k)) m.places (m.places - 1))) puts)
         | inr y ↦ rw (held_same, y)

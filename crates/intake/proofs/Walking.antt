@@ -15,11 +15,11 @@ module _ {K V : Type 0} (rank : K → ℕ) where
 
 module _ {K V : Type 0} (rank : K → ℕ) (join : V → V → V) where
   -- a key that is put makes no later key new or known
-  fresh-put : (m s : List (K × V)) (k : K) (v : V) → Rising rank 0 m → Rising rank (suc (rank k)) s →
+  fresh_put : (m s : List (K × V)) (k : K) (v : V) → Rising rank 0 m → Rising rank (suc (rank k)) s →
       fresh rank (put rank join m k v) s ≡ fresh rank m s
-  fresh-put m [] k v f g = refl
-  fresh-put m (e ∷ s) k v f g =
-      let ih = fresh-put m s k v f (rising_low rank (suc (rank e.0)) (suc (rank k)) s (let h = g.0 in omega arith) g.1) in
+  fresh_put m [] k v f g = refl
+  fresh_put m (e ∷ s) k v f g =
+      let ih = fresh_put m s k v f (rising_low rank (suc (rank e.0)) (suc (rank k)) s (let h = g.0 in omega arith) g.1) in
       let at = found_put rank join 0 m k v e.0 f in
       let h = g.0 in
       grind (arith, nat_tests)
@@ -40,8 +40,8 @@ module _ {K V : Type 0} (rank : K → ℕ) (join : V → V → V) (raise : ℕ �
   left_start a h = record { ascends = a; floor = refl; same = refl; count = refl; enough = leb-true _ _ h }
 
   module _ (m : Meaning K V) (e : K × V) (s : List (K × V)) (up : Rising rank (suc (rank e.0)) s) where
-    left-room : Left m (e ∷ s) → room rank m e.0 ≡ true
-    left-room l =
+    left_room : Left m (e ∷ s) → room rank m e.0 ≡ true
+    left_room l =
         elim (cases_Bool (is_some (looked rank m e.0))) [
           | inl y ↦ or_left _ _ y
           | inr y ↦ or_right _ _ (let h = l.enough in lt-ltb 0 m.places (grind (arith, nat_tests)))
@@ -50,10 +50,10 @@ module _ {K V : Type 0} (rank : K → ℕ) (join : V → V → V) (raise : ℕ �
     left_step : Left m (e ∷ s) → Left (taken rank join raise m e.0 e.1) s
     left_step l =
         let v = raise m.floor e.1 in
-        let f = fresh-put rank join m.entries s e.0 v l.ascends up in
+        let f = fresh_put rank join m.entries s e.0 v l.ascends up in
         let b = l.count in
         let d = l.enough in
-        rw (left-room l)
+        rw (left_room l)
         (record {
           ascends = rising_put rank join 0 m.entries e.0 v (omega arith) l.ascends;
           floor = l.floor;

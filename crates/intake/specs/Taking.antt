@@ -5,7 +5,7 @@ use Rattle.ratchet.specs.declared.copies.Holding.TheVariants.{Held}
 use Rattle.ratchet.specs.declared.ids.Id.{Id}
 use Rattle.ratchet.specs.Ids.{id_number}
 use Rattle.ratchet.specs.Join.{join, raised}
-use Rattle.ratchet.specs.Suite.{Meaning as Suite-meaning}
+use Rattle.ratchet.specs.Suite.{Meaning as SuiteMeaning}
 use Rattle.copy_bytes.specs.declared.named.NamedCopy.{NamedCopy}
 use Rattle.copy_bytes.specs.declared.named.Accepted.TheVariants.{ShareOrExport}
 use Rattle.copy_bytes.specs.declared.named.CopyFault.{CopyFault}
@@ -24,7 +24,7 @@ of_copy WrongVersion = Version
 abbrev pub of_store : StoreRefusal → TakeRefusal
 of_store Full = NoPlace
 
-module _ {P : Type 0} (s : Suite-meaning P) (m : Meaning Id (Holding P)) where
+module _ {P : Type 0} (s : SuiteMeaning P) (m : Meaning Id (Holding P)) where
   -- length and version are asked before the place
   abbrev pub read_answer : Result (NamedCopy P) CopyFault → Result (Unit {0}) TakeRefusal
   read_answer (Ok n) = cond (room id_number m n.id) (Ok tt) (Err NoPlace)
@@ -34,8 +34,8 @@ module _ {P : Type 0} (s : Suite-meaning P) (m : Meaning Id (Holding P)) where
   read_taken (Ok n) = taken id_number (join s) (raised s) m n.id (Held n.copy)
   read_taken (Err e) = m
 
-  abbrev pub bytes-answer : List ℕ → Result (Unit {0}) TakeRefusal
-  bytes-answer bs = read_answer (read_copy s ShareOrExport bs)
+  abbrev pub bytes_answer : List ℕ → Result (Unit {0}) TakeRefusal
+  bytes_answer bs = read_answer (read_copy s ShareOrExport bs)
 
-  abbrev pub bytes-taken : List ℕ → Meaning Id (Holding P)
-  bytes-taken bs = read_taken (read_copy s ShareOrExport bs)
+  abbrev pub bytes_taken : List ℕ → Meaning Id (Holding P)
+  bytes_taken bs = read_taken (read_copy s ShareOrExport bs)

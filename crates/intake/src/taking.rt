@@ -1,6 +1,6 @@
 ghost use Rattle.std.specs.Prelude.{◌≡◌, Err};
 ghost use Rattle.intake.specs.declared.take_refusal.TakeRefusal.TheVariants.{Length, Version, NoPlace};
-ghost use Rattle.intake.specs.Taking.{bytes-answer, bytes-taken};
+ghost use Rattle.intake.specs.Taking.{bytes_answer, bytes_taken};
 
 use crate::take_refusal::TakeRefusal;
 use copy_bytes::named::Accepted;
@@ -15,8 +15,8 @@ pub fn take_bytes<P: Suite, S: Store<Id, Holding<P>>>(
     store: &mut S,
     bytes: &[u8],
 ) -> Result<(), TakeRefusal>
-    ensures answer { result ≡ bytes-answer P.suite (means store.old) bytes.now }
-    ensures after { means store.new ≡ bytes-taken P.suite (means store.old) bytes.now }
+    ensures answer { result ≡ bytes_answer P.suite (means store.old) bytes.now }
+    ensures after { means store.new ≡ bytes_taken P.suite (means store.old) bytes.now }
     ensures steady { steady store.old store.new }
     ensures length { result ≡ Err Length → store.new ≡ store.old }
     ensures version { result ≡ Err Version → store.new ≡ store.old }

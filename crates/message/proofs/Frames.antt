@@ -94,9 +94,9 @@ pub record Sound {P : Type 0} (m : Meaning P) (bs : List ℕ) (f : Frame) : Type
   pub short : f.size ≤ 4116
 
 module _ {P : Type 0} (m : Meaning P) (bs : List ℕ) (f : Frame) where
-  size-sound : (index at : ℕ) (o : Option (ℕ × ℕ)) → keyed 18 (drop at bs) ≡ o → 3 ≤ at → length bs ≤ 4130 → Ok f ≡ sized m bs index at o → Sound m bs f
-  size-sound index at None is low short e = let z : ◌≡◌ {A = ℕ} 0 1 = cc in absurd (omega arith)
-  size-sound index at (Some (n, k)) is low short e =
+  size_sound : (index at : ℕ) (o : Option (ℕ × ℕ)) → keyed 18 (drop at bs) ≡ o → 3 ≤ at → length bs ≤ 4130 → Ok f ≡ sized m bs index at o → Sound m bs f
+  size_sound index at None is low short e = let z : ◌≡◌ {A = ℕ} 0 1 = cc in absurd (omega arith)
+  size_sound index at (Some (n, k)) is low short e =
       elim (cases_eq (length bs) (at + 1 + k + n + 8)) [
         | inl h ↦ elim (cases_Bool (m.allowed n)) [
           | inl t ↦ (let g = e ∙ cond-true _ _ _ (eq-eqb _ _ h) ∙ cond-true _ _ _ t in
@@ -114,14 +114,14 @@ module _ {P : Type 0} (m : Meaning P) (bs : List ℕ) (f : Frame) where
         at_most : (n at k total : ℕ) → total ≡ at + 1 + k + n + 8 → 3 ≤ at → total ≤ 4130 → 1 ≤ k → (128 ≤ n → 2 ≤ k) → n ≤ 4116
         at_most n at k total e low short one two = elim (cases_lt n 128) [ inl h ↦ omega arith | inr h ↦ (let t = two h in omega arith) ]
 
-  index-sound : (o : Option (ℕ × ℕ)) → keyed 8 (drop 1 bs) ≡ o → length bs ≤ 4130 → Ok f ≡ indexed m bs o → Sound m bs f
-  index-sound None is short e = let z : ◌≡◌ {A = ℕ} 0 1 = cc in absurd (omega arith)
-  index-sound (Some (index, k)) is short e = size-sound index (2 + k) (keyed 18 (drop (2 + k) bs)) refl (omega (arith, (keyed_fits 8 (drop 1 bs) index k is).1)) short e
+  index_sound : (o : Option (ℕ × ℕ)) → keyed 8 (drop 1 bs) ≡ o → length bs ≤ 4130 → Ok f ≡ indexed m bs o → Sound m bs f
+  index_sound None is short e = let z : ◌≡◌ {A = ℕ} 0 1 = cc in absurd (omega arith)
+  index_sound (Some (index, k)) is short e = size_sound index (2 + k) (keyed 18 (drop (2 + k) bs)) refl (omega (arith, (keyed_fits 8 (drop 1 bs) index k is).1)) short e
 
   pub frame_sound : Ok f ≡ framed m bs → Sound m bs f
   unfolding framed
   frame_sound e =
       elim (cases_Bool (starts m bs)) [
-        | inl t ↦ index-sound (keyed 8 (drop 1 bs)) refl (start_parts m bs (sym t)).1 (e ∙ cond-true _ _ _ t)
+        | inl t ↦ index_sound (keyed 8 (drop 1 bs)) refl (start_parts m bs (sym t)).1 (e ∙ cond-true _ _ _ t)
         | inr t ↦ (let g = e ∙ cond-false _ (indexed m bs (keyed 8 (drop 1 bs))) (Err Start) t in let z : ◌≡◌ {A = ℕ} 0 1 = cc in absurd (omega arith))
       ]

@@ -3,7 +3,7 @@ use Rattle.std.proofs.Common.{◌≡◌, ℕ, zero, suc, ◌+◌, ◌-◌, ◌*�
 use native.Mathlib.Nat.{pow-le-pow_right}
 use Rattle.std.proofs.lemmas.List.{at_drop_more}
 use Rattle.std.proofs.lemmas.Bool.{lt-ltb, le-ltb, eq-eqb, ne_eqb, cases_lt, cases_eq, and_from, and_left, and_right, cond-true, cond-false}
-use Rattle.std.specs.List.{AllByRecursion as All}
+use Rattle.std.specs.List.{AllByRecursion}
 use Rattle.ratchet.specs.Bytes.{Byte}
 use Rattle.message.specs.Varint.{groups, beneath, read_groups, within, read_varint, VarintLaws}
 
@@ -139,7 +139,7 @@ longer (suc n) b w v j bs high byte ne ev h rest =
     rw add-one (sym (groups_more n v (omega arith) ∙ (λ i. low i ∷ groups n (top i)) ∙ ap (λ xs. b ∷ xs) (sym (rest n (omega arith)))))
 
 -- what is read is the shortest form
-shortest : (bs : List ℕ) (n v k : ℕ) → All Byte bs → read_groups bs ≡ Some (v, k) → v < 128 ^ (n + 1) → take k bs ≡ groups n v
+shortest : (bs : List ℕ) (n v k : ℕ) → AllByRecursion Byte bs → read_groups bs ≡ Some (v, k) → v < 128 ^ (n + 1) → take k bs ≡ groups n v
 unfolding read_groups
 shortest [] n v k a e h = let z : ◌≡◌ {A = ℕ} 0 1 = cc in absurd (omega arith)
 shortest (b ∷ bs) n v k a e h =
@@ -198,9 +198,9 @@ varint_laws_lem = record {
 pub groups_size : (n k v : ℕ) → v < 128 ^ (k + 1) → length (groups n v) ≤ k + 1
 unfolding groups
 groups_size n zero v h = omega (arith, ap length (groups_last n v (omega arith)))
-groups_size zero (suc k) v h = omega (arith, ap length (groups-zero v)) where
-  groups-zero : (v : ℕ) → groups zero v ≡ v ∷ []
-  groups-zero v = refl
+groups_size zero (suc k) v h = omega (arith, ap length (groups_zero v)) where
+  groups_zero : (v : ℕ) → groups zero v ≡ v ∷ []
+  groups_zero v = refl
 groups_size (suc n) (suc k) v h =
     elim (cases_lt v 128) [
       | inl low ↦ omega (arith, ap length (groups_last (suc n) v low))

@@ -1,6 +1,6 @@
 -- Varints: groups of 7 bits, lowest first, the top bit set in all bytes but the last.
 use Rattle.std.specs.Prelude.{◌≡◌, ℕ, zero, suc, ◌+◌, ◌-◌, ◌*◌, ◌/◌, ◌%◌, ◌^◌, ◌<◌, cond, List, [], ◌∷◌, ◌++◌, length, take, Some, None, Option, ◌==◌, nat_lt}
-use Rattle.std.specs.List.{AllByRecursion as All}
+use Rattle.std.specs.List.{AllByRecursion}
 use Rattle.ratchet.specs.Bytes.{Byte}
 
 -- the shortest form of a number in at most n + 1 groups
@@ -34,4 +34,4 @@ pub record VarintLaws : Type 0 where
   -- what is written is read again, whatever follows
   pub back : (v : ℕ) (rest : List ℕ) → v < 2 ^ 32 → read_varint (varint v ++ rest) ≡ Some (v, length (varint v))
   -- what is read is written so, and no number has a second form
-  pub forth : (bs : List ℕ) (v k : ℕ) → All Byte bs → read_varint bs ≡ Some (v, k) → (take k bs ≡ varint v) × (v < 2 ^ 32)
+  pub forth : (bs : List ℕ) (v k : ℕ) → AllByRecursion Byte bs → read_varint bs ≡ Some (v, k) → (take k bs ≡ varint v) × (v < 2 ^ 32)

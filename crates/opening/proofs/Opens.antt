@@ -25,7 +25,7 @@ use Rattle.opening.specs.declared.unseal.Opened.{Opened}
 use Rattle.opening.specs.declared.unseal.OpenRefusal.{OpenRefusal}
 use Rattle.opening.specs.declared.unseal.OpenRefusal.TheVariants.{Tag, Text}
 use Rattle.opening.specs.Laws.{Opens}
-use Rattle.opening.specs.Open.{Unsealed, frame_refusal, not_early, held_at, texted, checked, by_copy, by-frame, unsealed, told, text_over, opened, open_output}
+use Rattle.opening.specs.Open.{Unsealed, frame_refusal, not_early, held_at, texted, checked, by_copy, by_frame, unsealed, told, text_over, opened, open_output}
 
 -- what a call told and left is what an opened message gives
 abbrev pub Gives : Result Unsealed OpenRefusal → Result Opened OpenRefusal → List ℕ → List ℕ → Type 0
@@ -51,15 +51,15 @@ module _ {P : Type 0} (m : Meaning P) (bs : List ℕ) (f : Frame) (a : Advanced 
       (ap told (sym u), ap (λ x. text_over x old) (sym u), tt)
 
   module _ (new : List ℕ) (right : true ≡ bytes_eq tag (take (length bs - (f.from + f.size)) (drop (f.from + f.size) bs))) where
-    right-tag : (o : Option (List ℕ)) → m.decipher (parts a.copy) (take (f.from + f.size - f.from) (drop f.from bs)) ≡ o → checked m bs f a ≡ texted m f a o
-    right-tag o e =
+    right_tag : (o : Option (List ℕ)) → m.decipher (parts a.copy) (take (f.from + f.size - f.from) (drop f.from bs)) ≡ o → checked m bs f a ≡ texted m f a o
+    right_tag o e =
         let n : f.size ≡ f.from + f.size - f.from = omega arith in
         cond-true _ _ _ (asked true right) ∙ ap (texted m f a) (ap (λ (k : ℕ). m.decipher (parts a.copy) (take k (drop f.from bs))) n ∙ e)
 
     pub no_text : Deciphered (m.decipher (parts a.copy) (take (f.from + f.size - f.from) (drop f.from bs))) None old new → Gives (checked m bs f a) (Err Text) old new
     no_text d =
         let (e, l) = deciphered_none (m.decipher (parts a.copy) (take (f.from + f.size - f.from) (drop f.from bs))) old new d in
-        let u = right-tag None e in
+        let u = right_tag None e in
         (ap told (sym u), l ∙ ap (λ x. text_over x old) (sym u), tt)
 
     pub some_text : Lawful m → length bs ≡ f.from + f.size + 8 → m.allowed f.size ≡ true → f.size ≤ 4116 → (size : ℕ)
@@ -68,7 +68,7 @@ module _ {P : Type 0} (m : Meaning P) (bs : List ℕ) (f : Frame) (a : Advanced 
     some_text laws whole allowed short size d =
         let xs = take (f.from + f.size - f.from) (drop f.from bs) in
         let (text, e, n, l) = deciphered_some (m.decipher (parts a.copy) xs) size old new d in
-        let u = right-tag (Some text) e in
+        let u = right_tag (Some text) e in
         let long : length xs ≡ f.size = length-take-le (f.from + f.size - f.from) (drop f.from bs) (omega (arith, length-drop f.from bs)) ∙ omega arith in
         let most = laws.texts (parts a.copy) xs text (ap m.allowed long ∙ allowed) (omega arith) e in
         (ap (λ (k : ℕ). Ok (record { size = k; index = f.index; hashes = a.hashes })) n ∙ ap told (sym u), l ∙ ap (λ x. text_over x old) (sym u), omega arith)
@@ -76,15 +76,15 @@ module _ {P : Type 0} (m : Meaning P) (bs : List ℕ) (f : Frame) (a : Advanced 
 module _ {P : Type 0} (m : Meaning P) (shown : Option (Holding P)) (bs : List ℕ) where
   pub unframed : (e : FrameFault) → Err e ≡ framed m bs → unsealed m shown bs ≡ Err (frame_refusal e)
   unfolding unsealed
-  unframed e is = ap (by-frame m bs shown) (sym is)
+  unframed e is = ap (by_frame m bs shown) (sym is)
 
   pub unheld : (f : Frame) (e : OpenRefusal) → Ok f ≡ framed m bs → Err e ≡ held_at m shown f.index → unsealed m shown bs ≡ Err e
   unfolding unsealed
-  unheld f e is no_copy = ap (by-frame m bs shown) (sym is) ∙ ap (by_copy m bs f) (sym no_copy)
+  unheld f e is no_copy = ap (by_frame m bs shown) (sym is) ∙ ap (by_copy m bs f) (sym no_copy)
 
   pub unsealed_is : (f : Frame) (a : Advanced P) → Ok f ≡ framed m bs → Ok a ≡ held_at m shown f.index → unsealed m shown bs ≡ checked m bs f a
   unfolding unsealed
-  unsealed_is f a is held = ap (by-frame m bs shown) (sym is) ∙ ap (by_copy m bs f) (sym held)
+  unsealed_is f a is held = ap (by_frame m bs shown) (sym is) ∙ ap (by_copy m bs f) (sym held)
 
 -- the text of a scratch, put into an output
 pub put_text : (u : Result Unsealed OpenRefusal) (t : Opened) (old scratch out new : List ℕ) (n : ℕ) → Ok t ≡ told u → scratch ≡ text_over u old
@@ -98,13 +98,13 @@ put_text (Ok u) t old scratch out new n et es ea ef =
 
 -- the copy that i steps reach, advanced to where k steps reach
 module _ {P : Type 0} (m : Meaning P) (start : SessionCopy P) (i k : ℕ) (origin : start.index ≡ 0) (le : i ≤ k) where
-  at-step : (n : ℕ) → (steps m.hash n start).index ≡ n
-  at-step n = steps_index m.hash n start ∙ omega arith
+  at_step : (n : ℕ) → (steps m.hash n start).index ≡ n
+  at_step n = steps_index m.hash n start ∙ omega arith
 
-  held-there : held_at m (Some (Held (steps m.hash i start))) k ≡ Ok (record { copy = steps m.hash k start; hashes = cost i k })
-  held-there =
+  held_there : held_at m (Some (Held (steps m.hash i start))) k ≡ Ok (record { copy = steps m.hash k start; hashes = cost i k })
+  held_there =
       let c = steps m.hash i start in
-      let e = at-step i in
+      let e = at_step i in
       let far : k - c.index ≡ k - i = ap (λ (x : ℕ). k - x) e in
       let sum : k - i + i ≡ k = omega arith in
       let there : steps m.hash (k - c.index) c ≡ steps m.hash k start =
@@ -114,9 +114,9 @@ module _ {P : Type 0} (m : Meaning P) (start : SessionCopy P) (i k : ℕ) (origi
 
 -- a message whose frame, tag and cipher are as they were laid out
 module _ {P : Type 0} (m : Meaning P) (index : ℕ) (cipher : List ℕ) (a : Advanced P) where
-  checked-so : checked m (tagged m a.copy (body m index cipher)) (frame_of m index cipher) a
+  checked_so : checked m (tagged m a.copy (body m index cipher)) (frame_of m index cipher) a
       ≡ texted m (frame_of m index cipher) a (m.decipher (parts a.copy) cipher)
-  checked-so =
+  checked_so =
       let xs = head m index (length cipher) in
       let tag = m.tag (parts a.copy) (xs ++ cipher) in
       let bs = (xs ++ cipher) ++ tag in
@@ -135,10 +135,10 @@ opens {P} m laws start i k text origin le small short bytes =
     let d = steps m.hash k start in
     let cipher = m.cipher (parts d) text in
     let lengths = laws.lengths (parts d) text short in
-    let e = at-step m start i k origin le k in
+    let e = at_step m start i k origin le k in
     let a : Advanced P = record { copy = d; hashes = cost i k } in
     let f = frame_of m d.index cipher in
     let framed-so = frame_law_lem m d.index cipher (m.tag (parts d) (body m d.index cipher)) (omega arith) lengths.0 lengths.1 (laws.tagged (parts d) (body m d.index cipher)) in
-    unsealed_is m (Some (Held (steps m.hash i start))) (sealed m d text) f a (sym framed-so) (sym (ap (held_at m (Some (Held (steps m.hash i start)))) e ∙ held-there m start i k origin le))
-    ∙ checked-so m d.index cipher a ∙ ap (texted m f a) (laws.deciphers (parts d) text short bytes)
+    unsealed_is m (Some (Held (steps m.hash i start))) (sealed m d text) f a (sym framed-so) (sym (ap (held_at m (Some (Held (steps m.hash i start)))) e ∙ held_there m start i k origin le))
+    ∙ checked_so m d.index cipher a ∙ ap (texted m f a) (laws.deciphers (parts d) text short bytes)
     ∙ ap (λ (x : ℕ). Ok (record { text = text; index = x; hashes = cost i k })) e

@@ -59,13 +59,13 @@ module _ {P : Type 0} (m : Meaning P) where
   by_copy bs f (Ok a) = checked bs f a
   by_copy bs f (Err e) = Err e
 
-  abbrev pub by-frame : List ℕ → Option (Holding P) → Result Frame FrameFault → Result Unsealed OpenRefusal
-  by-frame bs shown (Ok f) = by_copy bs f (held_at shown f.index)
-  by-frame bs shown (Err e) = Err (frame_refusal e)
+  abbrev pub by_frame : List ℕ → Option (Holding P) → Result Frame FrameFault → Result Unsealed OpenRefusal
+  by_frame bs shown (Ok f) = by_copy bs f (held_at shown f.index)
+  by_frame bs shown (Err e) = Err (frame_refusal e)
 
   -- the message is read before the session is looked at
   unfoldable pub unsealed : Option (Holding P) → List ℕ → Result Unsealed OpenRefusal
-  unsealed shown bs = by-frame bs shown (framed m bs)
+  unsealed shown bs = by_frame bs shown (framed m bs)
 
 -- the answer without the text, and the text laid over a scratch
 abbrev pub told : Result Unsealed OpenRefusal → Result Opened OpenRefusal

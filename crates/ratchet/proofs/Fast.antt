@@ -88,8 +88,8 @@ module _ {P : Type 0} (H : Level → P → P) where
   reseed_at L2 n c = refl
   reseed_at L3 n c = refl
 
-  step-at : (t : ℕ) (c : SessionCopy P) → step H (at t c) ≡ at (t + 1) (reseed H (level (t + 1)) c)
-  step-at t c = ap (at (t + 1)) (reseed_at (level (t + 1)) t c)
+  step_at : (t : ℕ) (c : SessionCopy P) → step H (at t c) ≡ at (t + 1) (reseed H (level (t + 1)) c)
+  step_at t c = ap (at (t + 1)) (reseed_at (level (t + 1)) t c)
 
   abbrev pub runs : ℕ → ℕ → ℕ → ℕ → SessionCopy P → SessionCopy P
   runs a b d e c = rep (reseed H L3) e (rep (reseed H L2) d (rep (reseed H L1) b (rep (reseed H L0) a c)))
@@ -135,14 +135,14 @@ module _ {P : Type 0} (H : Level → P → P) where
         ]
       ]
 
-  step-fast : (c : SessionCopy P) (t : ℕ) → c.index ≤ t → step H (fast c t) ≡ fast c (t + 1)
-  step-fast c t le = step-at t _ ∙ ap (at (t + 1)) (more c t le)
+  step_fast : (c : SessionCopy P) (t : ℕ) → c.index ≤ t → step H (fast c t) ≡ fast c (t + 1)
+  step_fast c t le = step_at t _ ∙ ap (at (t + 1)) (more c t le)
 
-  fast-none : (c : SessionCopy P) → c ≡ fast c c.index
-  fast-none c =
+  fast_none : (c : SessionCopy P) → c ≡ fast c c.index
+  fast_none c =
       let k : (n0 c.index c.index ≡ 0) × (n1 c.index c.index ≡ 0) × (n2 c.index c.index ≡ 0) × (n3 c.index c.index ≡ 0) = (omega arith, omega arith, omega arith, omega arith) in
       ap (at c.index) (sym (same_runs c k))
 
   pub fast_steps : (n : ℕ) (c : SessionCopy P) → steps H n c ≡ fast c (c.index + n)
-  fast_steps zero c = fast-none c ∙ ap (fast c) (sym (add-zero c.index))
-  fast_steps (suc n) c = ap (step H) (fast_steps n c) ∙ step-fast c (c.index + n) (omega arith) ∙ ap (fast c) (omega arith)
+  fast_steps zero c = fast_none c ∙ ap (fast c) (sym (add-zero c.index))
+  fast_steps (suc n) c = ap (step H) (fast_steps n c) ∙ step_fast c (c.index + n) (omega arith) ∙ ap (fast c) (omega arith)

@@ -20,14 +20,14 @@ module _ {P : Type 0} (m : Meaning P) where
   abbrev up : ℕ → SessionCopy P → SessionCopy P
   up f c = steps m.hash (f - c.index) c
 
-  up-index : (f : ℕ) (c : SessionCopy P) → (up f c).index ≡ max f c.index
-  up-index f c = steps_index m.hash (f - c.index) c ∙ omega arith
+  up_index : (f : ℕ) (c : SessionCopy P) → (up f c).index ≡ max f c.index
+  up_index f c = steps_index m.hash (f - c.index) c ∙ omega arith
 
   up_same : (f : ℕ) (c : SessionCopy P) → f ≤ c.index → up f c ≡ c
   up_same f c h = let z : f - c.index ≡ 0 = omega arith in ap (λ n. steps m.hash n c) z
 
   pub raised_least : (f : ℕ) (x : Holding P) → AtLeast f (raised m f x)
-  raised_least f (Held c) = let e = up-index f c in omega arith
+  raised_least f (Held c) = let e = up_index f c in omega arith
   raised_least f Disputed = tt
 
   pub raised_same : (f : ℕ) (x : Holding P) → AtLeast f x → raised m f x ≡ x
@@ -36,7 +36,7 @@ module _ {P : Type 0} (m : Meaning P) where
 
   up_up : (f g : ℕ) (c : SessionCopy P) → up f (up g c) ≡ up (max f g) c
   up_up f g c =
-      let e = up-index g c in
+      let e = up_index g c in
       let k : f - (up g c).index + (g - c.index) ≡ max f g - c.index = omega arith in
       sym (steps_add m.hash (f - (up g c).index) (g - c.index) c) ∙ ap (λ n. steps m.hash n c) k
 
@@ -46,32 +46,32 @@ module _ {P : Type 0} (m : Meaning P) where
 
 module _ {P : Type 0} (m : Meaning P) (laws : Lawful m) where
   -- copies of one index that reach each other are one
-  level-reach : (a b : SessionCopy P) → b.index ≤ a.index → Reach m laws a b → a ≡ b
-  level-reach a b h (n, e) =
+  level_reach : (a b : SessionCopy P) → b.index ≤ a.index → Reach m laws a b → a ≡ b
+  level_reach a b h (n, e) =
       let r = rise m laws n a b e in
       let z : 0 ≡ n = omega arith in
       ap (λ k. steps m.hash k a) z ∙ e
 
   -- a copy that reaches b is, raised to a floor below b, still one that does
-  up-reach : (f : ℕ) (a b : SessionCopy P) → f ≤ b.index → Reach m laws a b → Reach m laws (up m f a) b
-  up-reach f a b h (n, e) =
+  up_reach : (f : ℕ) (a b : SessionCopy P) → f ≤ b.index → Reach m laws a b → Reach m laws (up m f a) b
+  up_reach f a b h (n, e) =
       let r = rise m laws n a b e in
       elim (linear m laws a (up m f a) b (f - a.index, refl) (n, e)) [
         | inl s ↦ s
-        | inr s ↦ (let i = up-index m f a in (0, sym (level-reach b (up m f a) (omega arith) s)))
+        | inr s ↦ (let i = up_index m f a in (0, sym (level_reach b (up m f a) (omega arith) s)))
       ]
 
   pub raise_join : (f : ℕ) (x y : Holding P) → AtLeast f y → raised m f (join m x y) ≡ join m (raised m f x) y
   raise_join f (Held a) (Held b) h =
       elim (three m laws a b) [
-        | inl ab ↦ ap (raised m f) (join_left m laws a b ab) ∙ sym (join_left m laws (up m f a) b (up-reach f a b h ab))
+        | inl ab ↦ ap (raised m f) (join_left m laws a b ab) ∙ sym (join_left m laws (up m f a) b (up_reach f a b h ab))
         | inr t ↦ elim t [
           | inl ba ↦ (let r = rise m laws ba.0 b a ba.1 in
               ap (raised m f) (join_right m laws a b ba) ∙ ap Held (up_same m f b h) ∙ sym (ap (λ v. join m (Held v) (Held b)) (up_same m f a (omega arith)) ∙ join_right m laws a b ba))
           | inr n ↦ ap (raised m f) (join_none m laws a b n.0 n.1) ∙ sym (join_none m laws (up m f a) b
               (λ r. n.0 (chain m laws a (up m f a) b (f - a.index, refl) r))
               (λ r. elim (cases_lt a.index f) [
-                | inl low ↦ (let i = up-index m f a in n.0 (f - a.index, sym (level-reach b (up m f a) (omega arith) r)))
+                | inl low ↦ (let i = up_index m f a in n.0 (f - a.index, sym (level_reach b (up m f a) (omega arith) r)))
                 | inr high ↦ n.1 (subst (Reach m laws b) (up_same m f a high) r)
               ]))
         ]

@@ -1,6 +1,6 @@
 -- What a suite means, over its part type P, and what every suite must show.
 use Rattle.std.specs.Prelude.{◌≡◌, ℕ, ◌≤◌, Bool, true, List, length, Some, None, Decides, Option}
-use Rattle.std.specs.List.{AllByRecursion as All}
+use Rattle.std.specs.List.{AllByRecursion}
 use Rattle.ratchet.specs.declared.copies.Level.{Level}
 use Rattle.ratchet.specs.declared.copies.SessionCopy.{SessionCopy}
 use Rattle.ratchet.specs.Bytes.{Byte, laid}
@@ -32,10 +32,10 @@ pub record Lawful {P : Type 0} (m : Meaning P) : Type 0 where
   pub wide : (1 ≤ m.width) × (m.width ≤ 1024)
   pub formats : Byte m.message_byte × Byte m.share_byte × Byte m.export_byte
   pub sameness : (p q : P) → Decides (m.same p q) (p ≡ q)
-  pub encoded : (p : P) → (length (m.encode p) ≡ m.width) × All Byte (m.encode p)
+  pub encoded : (p : P) → (length (m.encode p) ≡ m.width) × AllByRecursion Byte (m.encode p)
   pub back : (p : P) → m.decode (m.encode p) ≡ p
-  pub forth : (bs : List ℕ) → length bs ≡ m.width → All Byte bs → m.encode (m.decode bs) ≡ bs
-  pub deciphers : (k : Parts P) (text : List ℕ) → length text ≤ 4096 → All Byte text → m.decipher k (m.cipher k text) ≡ Some text
+  pub forth : (bs : List ℕ) → length bs ≡ m.width → AllByRecursion Byte bs → m.encode (m.decode bs) ≡ bs
+  pub deciphers : (k : Parts P) (text : List ℕ) → length text ≤ 4096 → AllByRecursion Byte text → m.decipher k (m.cipher k text) ≡ Some text
   pub lengths : (k : Parts P) (text : List ℕ) → length text ≤ 4096 → (m.allowed (length (m.cipher k text)) ≡ true) × (length (m.cipher k text) ≤ 4112)
   pub texts : (k : Parts P) (bs text : List ℕ) → m.allowed (length bs) ≡ true → length bs ≤ 4116 → m.decipher k bs ≡ Some text → length text ≤ 4111
   pub tagged : (k : Parts P) (bs : List ℕ) → length (m.tag k bs) ≡ 8

@@ -5,7 +5,7 @@ use Rattle.std.proofs.lemmas.Str.Parse.{IsNumeralModel, numerals_by_fold, tells_
 use Rattle.std.proofs.lemmas.Result.{IfOk-weaker}
 use Rattle.std.proofs.lemmas.Bool.{cond-false, ne_eqb, false≢true, eqb-false, eqb-true, and_from}
 use Rattle.std.proofs.lemmas.Bool.Decides.{nat_tests}
-use Rattle.std.specs.List.{AllByRecursion as All}
+use Rattle.std.specs.List.{AllByRecursion}
 use Rattle.std.specs.Str.{all_ascii_digits}
 use Rattle.std.specs.Char.{is_ascii_digit}
 use Rattle.ratchet.specs.declared.ids.Id.{Id}
@@ -65,7 +65,7 @@ byte_hex a b h l p q =
     let low : (h * 16 + l) % 16 ≡ l = omega arith in
     (ap hex_digit high ∙ p.0, ap hex_digit low ∙ q.0, omega arith)
 
-one_pair : (a b : ℕ) (cs bs : List ℕ) (x y : Option ℕ) (z : Option (List ℕ)) → nibble a ≡ x → nibble b ≡ y → ((ds : List ℕ) → Some ds ≡ z → (hex ds ≡ cs) × All Byte ds) → Some bs ≡ before (paired x y) z → (hex bs ≡ a ∷ (b ∷ cs)) × All Byte bs
+one_pair : (a b : ℕ) (cs bs : List ℕ) (x y : Option ℕ) (z : Option (List ℕ)) → nibble a ≡ x → nibble b ≡ y → ((ds : List ℕ) → Some ds ≡ z → (hex ds ≡ cs) × AllByRecursion Byte ds) → Some bs ≡ before (paired x y) z → (hex bs ≡ a ∷ (b ∷ cs)) × AllByRecursion Byte bs
 one_pair a b cs bs None y z e f more h = absurd (some_none (sym h))
 one_pair a b cs bs (Some u) None z e f more h = absurd (some_none (sym h))
 one_pair a b cs bs (Some u) (Some v) None e f more h = absurd (some_none (sym h))
@@ -75,7 +75,7 @@ one_pair a b cs bs (Some u) (Some v) (Some ds) e f more h =
     let is : bs ≡ (u * 16 + v) ∷ ds = cc in
     rw is ((λ i. p.0 i ∷ (p.1 i ∷ t.0 i)), (p.2, t.1))
 
-all_pairs : (w bs : List ℕ) → Some bs ≡ pairs w → (hex bs ≡ w) × All Byte bs
+all_pairs : (w bs : List ℕ) → Some bs ≡ pairs w → (hex bs ≡ w) × AllByRecursion Byte bs
 all_pairs [] bs h = let is : bs ≡ [] = cc in rw is (refl, tt)
 all_pairs (a ∷ []) bs h = absurd (some_none (sym h))
 all_pairs (a ∷ (b ∷ cs)) bs h = one_pair a b cs bs (nibble a) (nibble b) (pairs cs) refl refl (λ ds. all_pairs cs ds) h
@@ -85,17 +85,17 @@ dash_is [] h = absurd (false≢true h)
 dash_is (c ∷ []) h = ap (λ x. x ∷ []) (eqb-true c 45 h)
 dash_is (c ∷ (d ∷ cs)) h = absurd (false≢true h)
 
-some_pairs : (w bs : List ℕ) → eqb (length w) 0 ≡ false → (hex bs ≡ w) × All Byte bs → (w ≡ hex_word bs) × All Byte bs
+some_pairs : (w bs : List ℕ) → eqb (length w) 0 ≡ false → (hex bs ≡ w) × AllByRecursion Byte bs → (w ≡ hex_word bs) × AllByRecursion Byte bs
 some_pairs w [] some t = absurd (eqb-false (length w) 0 some (ap length (sym t.0)))
 some_pairs w (b ∷ bs) some t = (sym t.0 ∙ sym (cond-false _ _ _ (ne_eqb (length (b ∷ bs)) 0 (λ e. omega arith))), t.1)
 
-by_dash : (w bs : List ℕ) (t u : Bool) → dash w ≡ t → eqb (length w) 0 ≡ u → Some bs ≡ cond t (Some []) (cond u None (pairs w)) → (w ≡ hex_word bs) × All Byte bs
+by_dash : (w bs : List ℕ) (t u : Bool) → dash w ≡ t → eqb (length w) 0 ≡ u → Some bs ≡ cond t (Some []) (cond u None (pairs w)) → (w ≡ hex_word bs) × AllByRecursion Byte bs
 by_dash w bs true u e f h = let is : bs ≡ [] = cc in rw is (dash_is w e, tt)
 by_dash w bs false true e f h = absurd (some_none (sym h))
 by_dash w bs false false e f h = some_pairs w bs f (all_pairs w bs h)
 
 -- a word that is read as bytes is how the bytes are written
-pub written_bytes : (w bs : List ℕ) → Some bs ≡ bytes_of w → (w ≡ hex_word bs) × All Byte bs
+pub written_bytes : (w bs : List ℕ) → Some bs ≡ bytes_of w → (w ≡ hex_word bs) × AllByRecursion Byte bs
 written_bytes w bs h = by_dash w bs (dash w) (eqb (length w) 0) refl refl h
 
 joined_at : (s b : ℕ) (bs cs : List ℕ) (t : Bool) → eqb b s ≡ t → (Some cs ≡ behind s bs → bs ≡ upto s bs ++ (s ∷ cs)) → Some cs ≡ cond t (Some bs) (behind s bs) → b ∷ bs ≡ cond t [] (b ∷ upto s bs) ++ (s ∷ cs)
@@ -115,12 +115,12 @@ pub uncut : (s : ℕ) (bs : List ℕ) → None ≡ behind s bs → bs ≡ upto s
 uncut s [] h = refl
 uncut s (b ∷ bs) h = uncut_at s b bs (eqb b s) (uncut s bs) h
 
-id_bytes_of : (bs : List ℕ) (t : Bool) (k : Id) → eqb (length bs) 32 ≡ t → All Byte bs → Ok k ≡ cond t (Ok (id_of bs)) (Err WrongLength) → bs ≡ id_bytes k
+id_bytes_of : (bs : List ℕ) (t : Bool) (k : Id) → eqb (length bs) 32 ≡ t → AllByRecursion Byte bs → Ok k ≡ cond t (Ok (id_of bs)) (Err WrongLength) → bs ≡ id_bytes k
 id_bytes_of bs true k e all h = let i : k ≡ id_of bs = cc in sym (ap id_bytes i ∙ id_forth bs (eqb-true (length bs) 32 e) all)
 id_bytes_of bs false k e all h = let z : ◌≡◌ {A = ℕ} 0 1 = cc in absurd (omega arith)
 
 -- an id that is read from bytes has these bytes
-pub written_id : (w bs : List ℕ) (k : Id) → (w ≡ hex_word bs) × All Byte bs → Ok k ≡ read_id bs → w ≡ hex_word (id_bytes k)
+pub written_id : (w bs : List ℕ) (k : Id) → (w ≡ hex_word bs) × AllByRecursion Byte bs → Ok k ≡ read_id bs → w ≡ hex_word (id_bytes k)
 written_id w bs k t h = t.0 ∙ ap hex_word (id_bytes_of bs (eqb (length bs) 32) k refl t.1 h)
 
 pub cut_whole : (s : ℕ) (bs a b : List ℕ) (o : Option (List ℕ)) → a ≡ upto s bs → o ≡ behind s bs → o ≡ Some b → bs ≡ a ++ (s ∷ b)

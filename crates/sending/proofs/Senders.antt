@@ -12,12 +12,12 @@ use Rattle.copy_bytes.specs.Output.{answered, filled}
 use Rattle.sending.specs.declared.sender.Sender.{Sender}
 use Rattle.message.specs.Seal.{sealed}
 use Rattle.copy_bytes.proofs.Outputs.{answered_fits}
-use Rattle.sending.specs.Sender.{at-start, Kept, refused_as, seal_space, seal-answer, seal-output, moved, after-seal}
+use Rattle.sending.specs.Sender.{at_start, Kept, refused_as, seal_space, seal_answer, seal_output, moved, after_seal}
 
 module _ {P : Type 0} (m : Meaning P) where
-  start-index : (bs : List ℕ) (c : SessionCopy P) → Ok c ≡ read_start m bs → c.index ≡ 0
+  start_index : (bs : List ℕ) (c : SessionCopy P) → Ok c ≡ read_start m bs → c.index ≡ 0
   unfolding copy_of
-  start-index bs c e =
+  start_index bs c e =
       elim (cases_Bool (eqb (length bs) (4 * m.width))) [
         | inl t ↦ (let f = e ∙ cond-true _ _ _ t in let g : c ≡ copy_of m 0 0 bs = cc in ap (λ x. x.index) g ∙ origin bs)
         | inr t ↦ (let f = e ∙ cond-false _ (Ok (copy_of m 0 0 bs)) (Err Length) t in let z : ◌≡◌ {A = ℕ} 0 1 = cc in absurd (omega arith))
@@ -25,23 +25,23 @@ module _ {P : Type 0} (m : Meaning P) where
         origin : (bs : List ℕ) → (copy_of m 0 0 bs).index ≡ 0
         origin bs = refl
 
-  pub new_kept : (id : Id) (bs : List ℕ) (c : SessionCopy P) → Ok c ≡ read_start m bs → Kept m (at-start id c)
+  pub new_kept : (id : Id) (bs : List ℕ) (c : SessionCopy P) → Ok c ≡ read_start m bs → Kept m (at_start id c)
   new_kept id bs c e = record {
-    origin = start-index bs c e;
-    by_steps = ap (λ (n : ℕ). steps m.hash n c) (sym (start-index bs c e));
+    origin = start_index bs c e;
+    by_steps = ap (λ (n : ℕ). steps m.hash n c) (sym (start_index bs c e));
     last = λ f. let z : ◌≡◌ {A = ℕ} 0 1 = cc in absurd (omega arith);
   }
 
-  next-is : (c next : SessionCopy P) → Some next ≡ stepped m.hash c → next ≡ step m.hash c
-  next-is c next e =
+  next_is : (c next : SessionCopy P) → Some next ≡ stepped m.hash c → next ≡ step m.hash c
+  next_is c next e =
       elim (cases_Bool (eqb c.index (2 ^ 32 - 1))) [
         | inl t ↦ (let f = e ∙ cond-true _ None (Some (step m.hash c)) t in let z : ◌≡◌ {A = ℕ} 0 1 = cc in absurd (omega arith))
         | inr t ↦ (let f = e ∙ cond-false _ None (Some (step m.hash c)) t in cc)
       ]
 
-  next-kept : (s : Sender P) (next : SessionCopy P) → Some next ≡ stepped m.hash s.current → s.spent ≡ false → Kept m s → Kept m (moved s (Some next))
-  next-kept s next e unspent k =
-      let is = next-is s.current next e in
+  next_kept : (s : Sender P) (next : SessionCopy P) → Some next ≡ stepped m.hash s.current → s.spent ≡ false → Kept m s → Kept m (moved s (Some next))
+  next_kept s next e unspent k =
+      let is = next_is s.current next e in
       let i : next.index ≡ s.current.index + 1 = ap (λ c. c.index) is in
       let n : suc s.current.index ≡ next.index = omega arith in
       record {
@@ -53,7 +53,7 @@ module _ {P : Type 0} (m : Meaning P) where
   -- a seal that goes through, with another copy behind it
   pub seal_goes : (s : Sender P) (text out new : List ℕ) (size : ℕ) (next : SessionCopy P) → length text ≤ 4096 → s.spent ≡ false
       → Ok size ≡ answered (sealed m s.current text) out → new ≡ filled (sealed m s.current text) out → Some next ≡ stepped m.hash s.current
-      → (Ok size ≡ seal-answer m s text out) × (new ≡ seal-output m s text out) × (moved s (Some next) ≡ after-seal m s text out) × (Kept m s → Kept m (moved s (Some next)))
+      → (Ok size ≡ seal_answer m s text out) × (new ≡ seal_output m s text out) × (moved s (Some next) ≡ after_seal m s text out) × (Kept m s → Kept m (moved s (Some next)))
   seal_goes s text out new size next short unspent e f n =
       let small = le-leb (length text) 4096 short in
       let may = and_from _ _ small (not_from_false s.spent unspent) in
@@ -61,5 +61,5 @@ module _ {P : Type 0} (m : Meaning P) where
         ap (refused_as seal_space) e ∙ sym (cond-true _ _ _ small ∙ cond-false _ _ _ unspent),
         f ∙ sym (cond-true _ _ _ may),
         ap (moved s) n ∙ sym (cond-true _ _ _ all),
-        next-kept s next n unspent,
+        next_kept s next n unspent,
       )

@@ -30,15 +30,15 @@ abbrev pub share_space : SpaceRefusal → ShareRefusal
 share_space TooSmall = NoRoom
 
 module _ {P : Type 0} where
-  abbrev pub at-start : Id → SessionCopy P → Sender P
-  at-start id c = record { id = id; start = c; current = c; spent = false }
+  abbrev pub at_start : Id → SessionCopy P → Sender P
+  at_start id c = record { id = id; start = c; current = c; spent = false }
 
   abbrev pub from_start : Id → Result (SessionCopy P) CopyFault → Result (Sender P) CopyFault
-  from_start id (Ok c) = Ok (at-start id c)
+  from_start id (Ok c) = Ok (at_start id c)
   from_start id (Err e) = Err e
 
-  abbrev pub may-seal : Sender P → List ℕ → Bool
-  may-seal s text = nat_le (length text) 4096 && not s.spent
+  abbrev pub may_seal : Sender P → List ℕ → Bool
+  may_seal s text = nat_le (length text) 4096 && not s.spent
 
   -- the next copy, or none behind the last index
   abbrev pub moved : Sender P → Option (SessionCopy P) → Sender P
@@ -57,27 +57,27 @@ module _ {P : Type 0} where
       pub last : s.spent ≡ true → s.current.index ≡ 2 ^ 32 - 1
 
     -- four parts make a sender at index 0
-    abbrev pub new-sender : Id → List ℕ → Result (Sender P) CopyFault
-    new-sender id bs = from_start id (read_start m bs)
+    abbrev pub new_sender : Id → List ℕ → Result (Sender P) CopyFault
+    new_sender id bs = from_start id (read_start m bs)
 
     -- a long text is refused before a spent sender, and that before an output without space
-    abbrev pub seal-answer : Sender P → List ℕ → List ℕ → Result ℕ SealRefusal
-    seal-answer s text out =
+    abbrev pub seal_answer : Sender P → List ℕ → List ℕ → Result ℕ SealRefusal
+    seal_answer s text out =
         cond (nat_le (length text) 4096) (cond s.spent (Err Spent) (refused_as seal_space (answered (sealed m s.current text) out))) (Err TextTooLong)
 
-    abbrev pub seal-output : Sender P → List ℕ → List ℕ → List ℕ
-    seal-output s text out = cond (may-seal s text) (filled (sealed m s.current text) out) out
+    abbrev pub seal_output : Sender P → List ℕ → List ℕ → List ℕ
+    seal_output s text out = cond (may_seal s text) (filled (sealed m s.current text) out) out
 
     -- the sender steps where a message was written, and else stays
-    abbrev pub after-seal : Sender P → List ℕ → List ℕ → Sender P
-    after-seal s text out = cond (may-seal s text && fits (sealed m s.current text) out) (moved s (stepped m.hash s.current)) s
+    abbrev pub after_seal : Sender P → List ℕ → List ℕ → Sender P
+    after_seal s text out = cond (may_seal s text && fits (sealed m s.current text) out) (moved s (stepped m.hash s.current)) s
 
     -- the copy at an index, with the share byte and under the sender's id
     abbrev pub shared : Sender P → ℕ → List ℕ
     shared s index = copy_bytes m Share (record { id = s.id; copy = reached s index })
 
-    abbrev pub share-answer : Sender P → ℕ → List ℕ → Result ℕ ShareRefusal
-    share-answer s index out = cond (nat_le index s.current.index) (refused_as share_space (answered (shared s index) out)) (Err Ahead)
+    abbrev pub share_answer : Sender P → ℕ → List ℕ → Result ℕ ShareRefusal
+    share_answer s index out = cond (nat_le index s.current.index) (refused_as share_space (answered (shared s index) out)) (Err Ahead)
 
-    abbrev pub share-output : Sender P → ℕ → List ℕ → List ℕ
-    share-output s index out = cond (nat_le index s.current.index) (filled (shared s index) out) out
+    abbrev pub share_output : Sender P → ℕ → List ℕ → List ℕ
+    share_output s index out = cond (nat_le index s.current.index) (filled (shared s index) out) out

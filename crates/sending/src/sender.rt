@@ -1,6 +1,6 @@
 ghost use Rattle.std.specs.Prelude.{◌≡◌, ◌-◌, IfOk};
 ghost use Rattle.ratchet.specs.Ratchet.{steps};
-ghost use Rattle.sending.specs.Sender.{at-start, Kept, reached, new-sender, seal_space, seal-answer, seal-output, after-seal, share_space, share-answer, share-output};
+ghost use Rattle.sending.specs.Sender.{at_start, Kept, reached, new_sender, seal_space, seal_answer, seal_output, after_seal, share_space, share_answer, share_output};
 
 use crate::sealing::write_sealed;
 use copy_bytes::named::{CopyFault, NamedCopy, Version};
@@ -57,7 +57,7 @@ impl From<SpaceRefusal> for ShareRefusal {
 }
 
 fn started<P: Copy>(id: Id, copy: SessionCopy<P>) -> Sender<P>
-    ensures { result ≡ at-start id copy }
+    ensures { result ≡ at_start id copy }
 {
     Sender {
         id,
@@ -70,7 +70,7 @@ fn started<P: Copy>(id: Id, copy: SessionCopy<P>) -> Sender<P>
 impl<P: Suite> Sender<P> {
     // A sender at index 0, from the bytes of four parts.
     pub fn new(id: Id, start: &[u8]) -> Result<Sender<P>, CopyFault>
-        ensures value { result ≡ new-sender P.suite id start.now }
+        ensures value { result ≡ new_sender P.suite id start.now }
         ensures kept { IfOk result (Kept P.suite) }
     {
         let copy = read_start(start)?;
@@ -85,9 +85,9 @@ impl<P: Suite> Sender<P> {
 
     // Writes the message of a text at the current index, and steps; at the last index the sender is then spent.
     pub fn seal(&mut self, text: &[u8], out: &mut [u8]) -> Result<usize, SealRefusal>
-        ensures value { result ≡ seal-answer P.suite self.old text.now out.old }
-        ensures output { out.new ≡ seal-output P.suite self.old text.now out.old }
-        ensures after { self.new ≡ after-seal P.suite self.old text.now out.old }
+        ensures value { result ≡ seal_answer P.suite self.old text.now out.old }
+        ensures output { out.new ≡ seal_output P.suite self.old text.now out.old }
+        ensures after { self.new ≡ after_seal P.suite self.old text.now out.old }
         ensures kept { Kept P.suite self.old → Kept P.suite self.new }
     {
         if text.len() > 4096 {
@@ -107,8 +107,8 @@ impl<P: Suite> Sender<P> {
 
     // Writes the copy at an index that the sender has reached, from 0 on.
     pub fn share(&self, index: u32, out: &mut [u8]) -> Result<usize, ShareRefusal>
-        ensures value { result ≡ share-answer P.suite self.now index out.old }
-        ensures output { out.new ≡ share-output P.suite self.now index out.old }
+        ensures value { result ≡ share_answer P.suite self.now index out.old }
+        ensures output { out.new ≡ share_output P.suite self.now index out.old }
         ensures kept { Kept P.suite self.now → reached P.suite self.now index ≡ steps P.suite.hash index self.now.start }
     {
         if index > self.index() {

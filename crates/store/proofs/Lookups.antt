@@ -52,20 +52,20 @@ module _ {K V : Type 0} (rank : K → ℕ) where
         | inr y ↦ rw y (rising_low (suc (rank e.0)) n (beyond rank m (Some k)) (let h = r.0 in omega arith) (beyond_rising (suc (rank e.0)) m (Some k) r.1))
       ]
 
-  beyond-next : (n : ℕ) (m : List (K × V)) (o : Option K) (e : K × V) (s : List (K × V)) → Rising rank n m →
+  beyond_next : (n : ℕ) (m : List (K × V)) (o : Option K) (e : K × V) (s : List (K × V)) → Rising rank n m →
       beyond rank m o ≡ e ∷ s → beyond rank m (Some e.0) ≡ s
-  beyond-next n [] None e s r h = absurd (let z : ◌≡◌ {A = ℕ} 0 1 = cc in omega arith)
-  beyond-next n (d ∷ m) None e s r h =
+  beyond_next n [] None e s r h = absurd (let z : ◌≡◌ {A = ℕ} 0 1 = cc in omega arith)
+  beyond_next n (d ∷ m) None e s r h =
       let all = beyond_all (suc (rank d.0)) m d.0 r.1 (omega arith) in
       grind (arith, nat_tests)
-  beyond-next n [] (Some k) e s r h = absurd (let z : ◌≡◌ {A = ℕ} 0 1 = cc in omega arith)
-  beyond-next n (d ∷ m) (Some k) e s r h =
+  beyond_next n [] (Some k) e s r h = absurd (let z : ◌≡◌ {A = ℕ} 0 1 = cc in omega arith)
+  beyond_next n (d ∷ m) (Some k) e s r h =
       let all = beyond_all (suc (rank d.0)) m d.0 r.1 (omega arith) in
       elim (cases_Bool (ltb (rank k) (rank d.0))) [
         | inl y ↦ let g : d ∷ m ≡ e ∷ s = rw y at h in grind (arith, nat_tests)
         | inr y ↦
             let g : beyond rank m (Some k) ≡ e ∷ s = rw y at h in
-            let ih = beyond-next (suc (rank d.0)) m (Some k) e s r.1 g in
+            let ih = beyond_next (suc (rank d.0)) m (Some k) e s r.1 g in
             let up : Rising rank (suc (rank d.0)) (e ∷ s) = rw g at (beyond_rising (suc (rank d.0)) m (Some k) r.1) in
             let u = up.0 in
             grind (arith, nat_tests)
@@ -78,7 +78,7 @@ module _ {K V : Type 0} (rank : K → ℕ) where
     go : (s : List (K × V)) → beyond rank m o ≡ s → Some e ≡ first s → s ≡ e ∷ beyond rank m (Some e.0)
     go [] p q = absurd (let z : ◌≡◌ {A = ℕ} 0 1 = cc in omega arith)
     go (d ∷ t) p q =
-        let b : beyond rank m (Some d.0) ≡ t = beyond-next 0 m o d t r p in
+        let b : beyond rank m (Some d.0) ≡ t = beyond_next 0 m o d t r p in
         let same : e ≡ d = cc in
         cc
 

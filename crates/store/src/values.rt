@@ -1,4 +1,4 @@
-ghost use Rattle.ratchet.specs.Join.{join as join-copies, raised as raise-copies};
+ghost use Rattle.ratchet.specs.Join.{join as join_copies, raised as raise_copies};
 ghost use Rattle.store.specs.Sightings.{join_sightings, unraised};
 ghost use Rattle.store.specs.Joining.{holding_laws, sighting_laws};
 
@@ -9,9 +9,9 @@ use ratchet::holdings::{join_holdings, raise_holding};
 use ratchet::suite::Suite;
 
 impl<P: Suite> Value for Holding<P> {
-    ghost join = { join-copies P.Suite.suite };
+    ghost join = { join_copies P.Suite.suite };
 
-    ghost raise = { raise-copies P.Suite.suite };
+    ghost raise = { raise_copies P.Suite.suite };
 
     ghost laws = { holding_laws P.Suite.suite P.Suite.lawful };
 

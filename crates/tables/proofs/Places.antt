@@ -48,20 +48,20 @@ module _ {A : Type 0} (test : A → Bool) where
     pub is : (d : A) → hit xs ≡ Some (get_or xs i d)
     pub sets : (y : A) → set xs i y ≡ swapped y xs
 
-  at-cons : (x : A) (xs : List A) (i : ℕ) (b : Bool) (o : Option ℕ) → test x ≡ b → place test xs ≡ o → ((j : ℕ) → Some j ≡ o → At xs j) →
+  at_cons : (x : A) (xs : List A) (i : ℕ) (b : Bool) (o : Option ℕ) → test x ≡ b → place test xs ≡ o → ((j : ℕ) → Some j ≡ o → At xs j) →
       Some i ≡ cond b (Some 0) (option_map suc o) → At (x ∷ xs) i
-  at-cons x xs i true o t p ih q =
+  at_cons x xs i true o t p ih q =
       let z : 0 ≡ i = cc in
       subst (At (x ∷ xs)) z (record { within = omega arith; is = λ d. rw t; sets = λ y. rw t })
-  at-cons x xs i false None t p ih q = absurd (let z : ◌≡◌ {A = ℕ} 0 1 = cc in omega arith)
-  at-cons x xs i false (Some j) t p ih q =
+  at_cons x xs i false None t p ih q = absurd (let z : ◌≡◌ {A = ℕ} 0 1 = cc in omega arith)
+  at_cons x xs i false (Some j) t p ih q =
       let z : suc j ≡ i = cc in
       let a = ih j refl in
       subst (At (x ∷ xs)) z (record { within = let h = a.within in omega arith; is = λ d. rw t (a.is d); sets = λ y. rw t (ap (λ l. x ∷ l) (a.sets y)) })
 
   pub place_at : (xs : List A) (i : ℕ) → Some i ≡ place test xs → At xs i
   place_at [] i h = absurd (let z : ◌≡◌ {A = ℕ} 0 1 = cc in omega arith)
-  place_at (x ∷ xs) i h = at-cons x xs i (test x) (place test xs) refl refl (λ j. place_at xs j) h
+  place_at (x ∷ xs) i h = at_cons x xs i (test x) (place test xs) refl refl (λ j. place_at xs j) h
 
   -- the element that is read there
   pub place_read : (xs : List A) (i : ℕ) (x : A) → Some i ≡ place test xs → x ≡ get_or xs i x → hit xs ≡ Some x

@@ -10,19 +10,19 @@ module _ {K V : Type 0} where
   is_free Free = true
   is_free (Held k v) = false
 
-  abbrev pub slot-value : Slot K V → Option V
-  slot-value Free = None
-  slot-value (Held k v) = Some v
+  abbrev pub slot_value : Slot K V → Option V
+  slot_value Free = None
+  slot_value (Held k v) = Some v
 
   -- the slot of a key with a value joined to its own; a free slot is filled
-  abbrev pub slot-joined : (V → V → V) → Slot K V → K → V → Slot K V
-  slot-joined join Free k v = Held k v
-  slot-joined join (Held q w) k v = Held k (join w v)
+  abbrev pub slot_joined : (V → V → V) → Slot K V → K → V → Slot K V
+  slot_joined join Free k v = Held k v
+  slot_joined join (Held q w) k v = Held k (join w v)
 
-  abbrev pub free-slots : List (Slot K V) → ℕ
-  free-slots [] = 0
-  free-slots (Free ∷ s) = suc (free-slots s)
-  free-slots (Held k v ∷ s) = free-slots s
+  abbrev pub free_slots : List (Slot K V) → ℕ
+  free_slots [] = 0
+  free_slots (Free ∷ s) = suc (free_slots s)
+  free_slots (Held k v ∷ s) = free_slots s
 
   module _ (rank : K → ℕ) where
     abbrev pub has_key : K → Slot K V → Bool
@@ -35,5 +35,5 @@ module _ {K V : Type 0} where
     held (Free ∷ s) = held s
     held (Held k v ∷ s) = put rank (λ _ w. w) (held s) k v
 
-    abbrev pub slots-mean : List (Slot K V) → Meaning K V
-    slots-mean s = record { entries = held s; floor = 0; places = free-slots s }
+    abbrev pub slots_mean : List (Slot K V) → Meaning K V
+    slots_mean s = record { entries = held s; floor = 0; places = free_slots s }

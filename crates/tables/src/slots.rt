@@ -3,7 +3,7 @@ ghost use Rattle.store.specs.declared.refusal.StoreRefusal.TheVariants.{NoPlace}
 ghost use Rattle.tables.specs.declared.slots.Slot.TheVariants.{Free};
 ghost use Rattle.store.specs.Meaning.{looked, room, answer, taken};
 ghost use Rattle.tables.specs.Search.{place, above, lower, lowest};
-ghost use Rattle.tables.specs.Slots.{is_free, has_key, slot-value, slot-joined, free-slots, slots-mean};
+ghost use Rattle.tables.specs.Slots.{is_free, has_key, slot_value, slot_joined, free_slots, slots_mean};
 
 use store::meaning::{Key, Value};
 use store::refusal::StoreRefusal;
@@ -40,7 +40,7 @@ fn free_place<K: Copy, V: Copy>(slots: &[Slot<K, V>]) -> Option<usize>
 }
 
 pub(crate) fn count_free<K: Copy, V: Copy>(slots: &[Slot<K, V>]) -> usize
-    ensures { result ≡ free-slots slots.now }
+    ensures { result ≡ free_slots slots.now }
 {
     let mut n = 0;
     for slot in slots {
@@ -52,7 +52,7 @@ pub(crate) fn count_free<K: Copy, V: Copy>(slots: &[Slot<K, V>]) -> usize
 }
 
 fn value_of<K: Copy, V: Copy>(slot: Slot<K, V>) -> Option<V>
-    ensures { result ≡ slot-value slot }
+    ensures { result ≡ slot_value slot }
 {
     match slot {
         Slot::Held(_, v) => Some(v),
@@ -61,7 +61,7 @@ fn value_of<K: Copy, V: Copy>(slot: Slot<K, V>) -> Option<V>
 }
 
 pub(crate) fn look_in<K: Key, V: Copy>(slots: &[Slot<K, V>], key: K) -> Option<V>
-    ensures { result ≡ looked rank (slots-mean rank slots.now) key }
+    ensures { result ≡ looked rank (slots_mean rank slots.now) key }
 {
     match key_place(slots, key) {
         Some(i) => value_of(slots[i]),
@@ -98,7 +98,7 @@ pub(crate) fn lowest_above<K: Key, V: Copy>(slots: &[Slot<K, V>], last: Option<K
 
 // A slot with the value joined to what it held.
 fn joined_slot<K: Key, V: Value>(slot: Slot<K, V>, key: K, value: V) -> Slot<K, V>
-    ensures { result ≡ slot-joined join slot key value }
+    ensures { result ≡ slot_joined join slot key value }
 {
     match slot {
         Slot::Held(_, held) => Slot::Held(key, held.joined(value)),
@@ -111,8 +111,8 @@ pub(crate) fn take_in<K: Key, V: Value>(
     key: K,
     value: V,
 ) -> Result<(), StoreRefusal>
-    ensures answer { result ≡ answer (room rank (slots-mean rank slots.old) key) }
-    ensures after { slots-mean rank slots.new ≡ taken rank join raise (slots-mean rank slots.old) key value }
+    ensures answer { result ≡ answer (room rank (slots_mean rank slots.old) key) }
+    ensures after { slots_mean rank slots.new ≡ taken rank join raise (slots_mean rank slots.old) key value }
     ensures refused { result ≡ Err NoPlace → slots.new ≡ slots.old }
 {
     if let Some(i) = key_place(slots, key) {

@@ -3,7 +3,7 @@ ghost use Rattle.ratchet.specs.Ids.{id_number};
 ghost use Rattle.store.specs.Keys.{spot_number};
 ghost use Rattle.store.specs.Lasting.{by_name};
 ghost use Rattle.store.specs.Meaning.{empty};
-ghost use Rattle.tables.specs.Slots.{slots-mean};
+ghost use Rattle.tables.specs.Slots.{slots_mean};
 
 use crate::slots::{Slot, clear, count_free, look_in, lowest_above, take_in};
 use ratchet::copies::Holding;
@@ -21,7 +21,7 @@ pub struct Table<'a, K, V> {
 }
 
 impl<K: Key, V: Value> Store<K, V> for Table<'_, K, V> {
-    ghost means = { λ s. slots-mean K.Key.rank s.slots.now };
+    ghost means = { λ s. slots_mean K.Key.rank s.slots.now };
 
     ghost steady = { λ s t. t.slots.ghost_name ≡ s.slots.ghost_name };
 
@@ -52,7 +52,7 @@ impl<K: Key, V: Value> Store<K, V> for Table<'_, K, V> {
 
 // Clears all slots, and makes a table of those in front, at most as many as the limit.
 fn table_over<'a, K: Key, V: Value>(slots: &'a mut [Slot<K, V>], limit: usize) -> Table<'a, K, V>
-    ensures means { slots-mean rank result.slots.now ≡ empty (min (length slots.old) limit) }
+    ensures means { slots_mean rank result.slots.now ≡ empty (min (length slots.old) limit) }
     ensures lent { length slots.old ≤ limit → result.slots.ghost_name ≡ slots.entry.ghost_name }
 {
     clear(slots);
@@ -67,7 +67,7 @@ fn table_over<'a, K: Key, V: Value>(slots: &'a mut [Slot<K, V>], limit: usize) -
 
 // An empty store of what is held of sessions. Where no slot is left over, it lies in all the memory lent.
 pub fn slot_store<'a, P: Suite>(slots: &'a mut [Slot<Id, Holding<P>>]) -> Table<'a, Id, Holding<P>>
-    ensures means { slots-mean id_number result.slots.now ≡ empty (min (length slots.old) 4096) }
+    ensures means { slots_mean id_number result.slots.now ≡ empty (min (length slots.old) 4096) }
     ensures lent { length slots.old ≤ 4096 → result.slots.ghost_name ≡ slots.entry.ghost_name }
 {
     table_over(slots, 4096)
@@ -75,7 +75,7 @@ pub fn slot_store<'a, P: Suite>(slots: &'a mut [Slot<Id, Holding<P>>]) -> Table<
 
 // An empty table of sightings. Where no slot is left over, it lies in all the memory lent.
 pub fn sighting_table<'a>(slots: &'a mut [Slot<Spot, Sighting>]) -> Table<'a, Spot, Sighting>
-    ensures means { slots-mean spot_number result.slots.now ≡ empty (min (length slots.old) 65536) }
+    ensures means { slots_mean spot_number result.slots.now ≡ empty (min (length slots.old) 65536) }
     ensures lent { length slots.old ≤ 65536 → result.slots.ghost_name ≡ slots.entry.ghost_name }
 {
     table_over(slots, 65_536)
