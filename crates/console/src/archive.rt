@@ -18,7 +18,7 @@ use ratchet::advance::advance;
 use ratchet::copies::Holding;
 use ratchet::ids::Id;
 use ratchet::suite::Suite;
-use script::commands::{Call, SenderCall, StoreCall};
+use script::commands::Call;
 use script::fault::LineFault;
 use sending::sender::Sender;
 use std::alloc::AllocError;
@@ -188,45 +188,19 @@ fn share<P: Suite>(sender: &Option<Sender<P>>, index: u32, desk: &mut Desk) -> R
     Ok(())
 }
 
-fn serve_sender<P: Suite>(
-    sender: &mut Option<Sender<P>>,
-    call: SenderCall,
-    desk: &mut Desk,
-) -> Result<(), LineFault>
-    ensures bad_sender { result ≡ Err BadLine → sender.new ≡ sender.old }
-    ensures bad_desk { result ≡ Err BadLine → desk.new ≡ desk.old }
-{
-    match call {
-        SenderCall::Make(id, start) => {
-            make_sender(sender, id, &start, desk)?;
-            Ok(())
-        }
-        SenderCall::Seal(text) => seal(sender, &text, desk),
-        SenderCall::Share(index) => share(sender, index, desk),
-    }
-}
-
-fn serve_store<P: Suite, S: Store<Id, Holding<P>>>(
-    store: &mut S,
-    call: StoreCall,
-    desk: &mut Desk,
-) -> Result<(), AllocError> {
-    match call {
-        StoreCall::Take(copy) => take(store, &copy, desk),
-        StoreCall::Dispute(id) => dispute(store, id, desk),
-        StoreCall::Look(id) => look(store, id, desk),
-        StoreCall::Next(last) => next(store, last, desk),
-        StoreCall::Open(id, message) => open_message(store, id, &message, desk),
-        StoreCall::Free => free(store, desk),
-        StoreCall::Floor => floor(store, desk),
-    }
-}
-
 impl<P: Suite, S: Store<Id, Holding<P>>> Serves for Archive<S, P> {
     fn serve(&mut self, call: Call, desk: &mut Desk) -> Result<(), LineFault> {
         match call {
-            Call::Sender(call) => serve_sender(&mut self.sender, call, desk)?,
-            Call::Store(call) => serve_store(&mut self.store, call, desk)?,
+            Call::Sender(id, start) => make_sender(&mut self.sender, id, &start, desk)?,
+            Call::Seal(text) => seal(&mut self.sender, &text, desk)?,
+            Call::Share(index) => share(&self.sender, index, desk)?,
+            Call::Take(copy) => take(&mut self.store, &copy, desk)?,
+            Call::Dispute(id) => dispute(&mut self.store, id, desk)?,
+            Call::Look(id) => look(&self.store, id, desk)?,
+            Call::Next(last) => next(&self.store, last, desk)?,
+            Call::Open(id, message) => open_message(&self.store, id, &message, desk)?,
+            Call::Free => free(&self.store, desk)?,
+            Call::Floor => floor(&self.store, desk)?,
             Call::Advance(copy, target) => advance_bytes::<P>(&copy, target, desk)?,
         }
         append(&mut desk.answers, b"\n")?;

@@ -88,10 +88,7 @@ fn serve<P: Suite, W: Write>(
 }
 
 fn run<W: Write>(heap: Global, text: &[u8], sink: &mut W) -> io::Result<()> {
-    let mut script = Script {
-        rest: Some(text),
-        lines: 0,
-    };
+    let mut script = Script::new(text);
     let mut desk = Desk::new(heap)?;
     let mut plan = walk(heap, &mut script, &mut NoArchive, &mut desk, sink)?;
     while let Some(p) = plan {

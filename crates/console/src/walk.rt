@@ -84,7 +84,7 @@ pub(crate) fn walk<S: Serves, W: Write>(
     ensures { IfOk result (λ o. OnSome o (extent (option_map (λ x. x.now) script.new.rest) < extent (option_map (λ x. x.now) script.old.rest))) }
 {
     while let Some(line) = script.next_line() {
-        let plan = answer(heap, line, script.lines, server, desk)?;
+        let plan = answer(heap, line, script.lines(), server, desk)?;
         desk.write_piece(sink)?;
         if plan.is_some() {
             return Ok(plan);

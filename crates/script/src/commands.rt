@@ -19,17 +19,12 @@ pub struct Plan {
     pub floor: u32,
 }
 
-// What the sender is asked.
+// What an archive and its sender are asked.
 #[derive(Drop)]
-pub enum SenderCall {
-    Make(Id, Vec<u8>),
+pub enum Call {
+    Sender(Id, Vec<u8>),
     Seal(Vec<u8>),
     Share(u32),
-}
-
-// What the archive's store is asked.
-#[derive(Drop)]
-pub enum StoreCall {
     Take(Vec<u8>),
     Dispute(Id),
     Look(Id),
@@ -37,13 +32,6 @@ pub enum StoreCall {
     Open(Id, Vec<u8>),
     Free,
     Floor,
-}
-
-// What an archive and its sender are asked. An advance asks neither.
-#[derive(Drop)]
-pub enum Call {
-    Sender(SenderCall),
-    Store(StoreCall),
     Advance(Vec<u8>, u32),
 }
 
@@ -129,14 +117,14 @@ fn read_sender(heap: Global, rest: &[u8]) -> Result<Call, LineFault>
     ensures { IfOk result (λ call. spaced (codes "sender") rest.now ≡ call_line call) }
 {
     let (id, start) = two_words(rest)?;
-    Ok(Call::Sender(SenderCall::Make(read_name(heap, id)?, read_hex(heap, start)?)))
+    Ok(Call::Sender(read_name(heap, id)?, read_hex(heap, start)?))
 }
 
 fn read_open(heap: Global, rest: &[u8]) -> Result<Call, LineFault>
     ensures { IfOk result (λ call. spaced (codes "open") rest.now ≡ call_line call) }
 {
     let (id, message) = two_words(rest)?;
-    Ok(Call::Store(StoreCall::Open(read_name(heap, id)?, read_hex(heap, message)?)))
+    Ok(Call::Open(read_name(heap, id)?, read_hex(heap, message)?))
 }
 
 fn read_advance(heap: Global, rest: &[u8]) -> Result<Call, LineFault>
@@ -150,9 +138,9 @@ fn read_next(heap: Global, word: &[u8]) -> Result<Call, LineFault>
     ensures { IfOk result (λ call. spaced (codes "next") word.now ≡ call_line call) }
 {
     if is_word(word, b"-") {
-        return Ok(Call::Store(StoreCall::Next(None)));
+        return Ok(Call::Next(None));
     }
-    Ok(Call::Store(StoreCall::Next(Some(read_name(heap, word)?))))
+    Ok(Call::Next(Some(read_name(heap, word)?)))
 }
 
 // A command that is one word.
@@ -160,8 +148,8 @@ fn read_lone(verb: Verb) -> Result<Command, LineFault>
     ensures { IfOk result (λ c. verb_word verb ≡ command_line c) }
 {
     match verb {
-        Verb::Free => Ok(Command::Call(Call::Store(StoreCall::Free))),
-        Verb::Floor => Ok(Command::Call(Call::Store(StoreCall::Floor))),
+        Verb::Free => Ok(Command::Call(Call::Free)),
+        Verb::Floor => Ok(Command::Call(Call::Floor)),
         _ => Err(LineFault::BadLine),
     }
 }
@@ -171,11 +159,11 @@ fn read_call(heap: Global, verb: Verb, rest: &[u8]) -> Result<Call, LineFault>
 {
     match verb {
         Verb::Sender => read_sender(heap, rest),
-        Verb::Seal => Ok(Call::Sender(SenderCall::Seal(read_hex(heap, rest)?))),
-        Verb::Share => Ok(Call::Sender(SenderCall::Share(read_index(rest)?))),
-        Verb::Take => Ok(Call::Store(StoreCall::Take(read_hex(heap, rest)?))),
-        Verb::Dispute => Ok(Call::Store(StoreCall::Dispute(read_name(heap, rest)?))),
-        Verb::Look => Ok(Call::Store(StoreCall::Look(read_name(heap, rest)?))),
+        Verb::Seal => Ok(Call::Seal(read_hex(heap, rest)?)),
+        Verb::Share => Ok(Call::Share(read_index(rest)?)),
+        Verb::Take => Ok(Call::Take(read_hex(heap, rest)?)),
+        Verb::Dispute => Ok(Call::Dispute(read_name(heap, rest)?)),
+        Verb::Look => Ok(Call::Look(read_name(heap, rest)?)),
         Verb::Next => read_next(heap, rest),
         Verb::Open => read_open(heap, rest),
         Verb::Advance => read_advance(heap, rest),

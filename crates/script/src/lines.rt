@@ -23,6 +23,16 @@ fn cut_line(text: &[u8]) -> Cut<'_>
 }
 
 impl<'a> Script<'a> {
+    pub fn new(text: &'a [u8]) -> Script<'a>
+        ensures rest { option_map (λ x. x.now) result.rest ≡ Some text.now }
+        ensures lines { result.lines ≡ 0 }
+    {
+        Script {
+            rest: Some(text),
+            lines: 0,
+        }
+    }
+
     // The next line, without its newline.
     pub fn next_line(&mut self) -> Option<&'a [u8]>
         ensures line { option_map (λ x. x.now) result ≡ first_line (option_map (λ x. x.now) self.old.rest) }
@@ -37,5 +47,12 @@ impl<'a> Script<'a> {
         self.rest = line.back;
         self.lines = self.lines.saturating_add(1);
         Some(line.front)
+    }
+
+    // How many lines were given out: the number of the last one.
+    pub fn lines(&self) -> u64
+        ensures { result ≡ self.now.lines }
+    {
+        self.lines
     }
 }
