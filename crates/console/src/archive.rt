@@ -59,7 +59,7 @@ fn look<P: Suite, S: Store<Id, Holding<P>>>(
     id: Id,
     desk: &mut Desk,
 ) -> Result<(), AllocError>
-    ensures { OnOk result (desk.new.answers.items ≡ desk.old.answers.items ++ look_line P.suite (looked id_number (means store.now) id)) }
+    ensures { OnOk result (desk.new.answers.items ≡ desk.old.answers.items ++ look_line P.suite (looked id_number (S.means store.now) id)) }
 {
     append(&mut desk.answers, b"look")?;
     match store.look(id) {
@@ -73,7 +73,7 @@ fn next<P: Suite, S: Store<Id, Holding<P>>>(
     last: Option<Id>,
     desk: &mut Desk,
 ) -> Result<(), AllocError>
-    ensures { OnOk result (desk.new.answers.items ≡ desk.old.answers.items ++ next_line P.suite (nexted id_number (means store.now) last)) }
+    ensures { OnOk result (desk.new.answers.items ≡ desk.old.answers.items ++ next_line P.suite (nexted id_number (S.means store.now) last)) }
 {
     append(&mut desk.answers, b"next")?;
     match store.next(&last) {
@@ -103,14 +103,14 @@ fn open_message<P: Suite, S: Store<Id, Holding<P>>>(
 }
 
 fn free<P: Suite, S: Store<Id, Holding<P>>>(store: &S, desk: &mut Desk) -> Result<(), AllocError>
-    ensures { OnOk result (desk.new.answers.items ≡ desk.old.answers.items ++ (codes "free " ++ decimal (means store.now).places)) }
+    ensures { OnOk result (desk.new.answers.items ≡ desk.old.answers.items ++ (codes "free " ++ decimal (S.means store.now).places)) }
 {
     append(&mut desk.answers, b"free")?;
     add_number(&mut desk.answers, store.free() as u64)
 }
 
 fn floor<P: Suite, S: Store<Id, Holding<P>>>(store: &S, desk: &mut Desk) -> Result<(), AllocError>
-    ensures { OnOk result (desk.new.answers.items ≡ desk.old.answers.items ++ (codes "floor " ++ decimal (means store.now).floor)) }
+    ensures { OnOk result (desk.new.answers.items ≡ desk.old.answers.items ++ (codes "floor " ++ decimal (S.means store.now).floor)) }
 {
     append(&mut desk.answers, b"floor")?;
     add_number(&mut desk.answers, store.floor() as u64)

@@ -8,8 +8,8 @@ use store::refusal::StoreRefusal;
 
 // Whether the places of `dst` suffice for all keys of `src` that it lacks.
 fn has_room<K: Key, V: Value, A: Store<K, V>, B: Store<K, V>>(dst: &A, src: &B) -> bool
-    ensures ascends { Ascends rank (A.Store.means dst.now) }
-    ensures value { result ≡ room_for rank (A.Store.means dst.now) (B.Store.means src.now).entries }
+    ensures ascends { Ascends K.rank (A.means dst.now) }
+    ensures value { result ≡ room_for K.rank (A.means dst.now) (B.means src.now).entries }
 {
     let mut left = dst.free();
     let mut last = None;
@@ -30,9 +30,9 @@ pub fn merge<K: Key, V: Value, A: Store<K, V>, B: Store<K, V>>(
     dst: &mut A,
     src: &B,
 ) -> Result<(), StoreRefusal>
-    ensures answer { result ≡ answer (room_for rank (A.Store.means dst.old) (B.Store.means src.now).entries) }
-    ensures after { A.Store.means dst.new ≡ merged rank join raise (A.Store.means dst.old) (B.Store.means src.now).entries }
-    ensures steady { A.Store.steady dst.old dst.new }
+    ensures answer { result ≡ answer (room_for K.rank (A.means dst.old) (B.means src.now).entries) }
+    ensures after { A.means dst.new ≡ merged K.rank V.join V.raise (A.means dst.old) (B.means src.now).entries }
+    ensures steady { A.steady dst.old dst.new }
     ensures refused { result ≡ Err NoPlace → dst.new ≡ dst.old }
 {
     if !has_room(dst, src) {

@@ -15,12 +15,12 @@ pub fn take_bytes<P: Suite, S: Store<Id, Holding<P>>>(
     store: &mut S,
     bytes: &[u8],
 ) -> Result<(), TakeRefusal>
-    ensures answer { result ≡ bytes_answer P.suite (means store.old) bytes.now }
-    ensures after { means store.new ≡ bytes_taken P.suite (means store.old) bytes.now }
-    ensures steady { steady store.old store.new }
+    ensures answer { result ≡ bytes_answer P.suite (S.means store.old) bytes.now }
+    ensures after { S.means store.new ≡ bytes_taken P.suite (S.means store.old) bytes.now }
+    ensures steady { S.steady store.old store.new }
     ensures length { result ≡ Err Length → store.new ≡ store.old }
     ensures version { result ≡ Err Version → store.new ≡ store.old }
-    ensures refused { result ≡ Err NoPlace → unaltered store.old store.new }
+    ensures refused { result ≡ Err NoPlace → S.unaltered store.old store.new }
 {
     let named = read_copy::<P>(bytes, Accepted::ShareOrExport)?;
     store.take(named.id, Holding::Held(named.copy))?;

@@ -27,8 +27,8 @@ pub fn open<P: Suite, S: Store<Id, Holding<P>>>(
     message: &[u8],
     out: &mut [u8],
 ) -> Result<Opened, OpenRefusal>
-    ensures value { result ≡ opened (unsealed P.suite (looked id_number (S.Store.means store.now) id) message.now) out.old }
-    ensures after { out.new ≡ open_output (unsealed P.suite (looked id_number (S.Store.means store.now) id) message.now) out.old }
+    ensures value { result ≡ opened (unsealed P.suite (looked id_number (S.means store.now) id) message.now) out.old }
+    ensures after { out.new ≡ open_output (unsealed P.suite (looked id_number (S.means store.now) id) message.now) out.old }
 {
     let mut scratch = [0; 4111];
     let told = unseal(store.look(id), message, &mut scratch)?;
