@@ -46,23 +46,23 @@ pub trait Store<K: Key, V: Value> {
 
     // Raises the value to the floor and joins it to what the key has, or enters it.
     fn take(&mut self, key: K, value: V) -> Result<(), StoreRefusal>
-        ensures answer { result ≡ answer (room rank (means self.old) key) }
-        ensures after { means self.new ≡ taken rank join raise (means self.old) key value }
+        ensures answer { result ≡ answer (room K.rank (means self.old) key) }
+        ensures after { means self.new ≡ taken K.rank V.join V.raise (means self.old) key value }
         ensures steady { steady self.old self.new }
         ensures refused { result ≡ Err NoPlace → unaltered self.old self.new };
 
     fn look(&self, key: K) -> Option<V>
-        ensures { result ≡ looked rank (means self.now) key };
+        ensures { result ≡ looked K.rank (means self.now) key };
 
     // The entry of the lowest key above `last`, which need not be held, or of the lowest key.
     fn next(&self, last: &Option<K>) -> Option<(K, V)>
-        ensures value { result ≡ nexted rank (means self.now) last.now }
-        ensures ascends { Ascends rank (means self.now) };
+        ensures value { result ≡ nexted K.rank (means self.now) last.now }
+        ensures ascends { Ascends K.rank (means self.now) };
 
     fn floor(&self) -> u32
         ensures { result ≡ (means self.now).floor };
 
     fn free(&self) -> usize
         ensures value { result ≡ (means self.now).places }
-        ensures ascends { Ascends rank (means self.now) };
+        ensures ascends { Ascends K.rank (means self.now) };
 }
