@@ -28,6 +28,6 @@ same_sighting (Event a) Repeated = false
 same_sighting Repeated (Event b) = false
 
 -- there is one, and it passes the test
-abbrev pub is_some : {A : Type 0} → (A → Bool) → Option A → Bool
-is_some test (Some x) = test x
-is_some test None = false
+abbrev pub some_passes : {A : Type 0} → (A → Bool) → Option A → Bool
+some_passes test (Some x) = test x
+some_passes test None = false

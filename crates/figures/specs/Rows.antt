@@ -23,7 +23,7 @@ use Rattle.opening.specs.declared.unseal.OpenRefusal.{OpenRefusal}
 use Rattle.opening.specs.Open.{Unsealed, unsealed, opened, open_output}
 use Rattle.bench_suite.specs.declared.word.Word.{Word}
 use Rattle.bench_suite.specs.Bench.{word, bench}
-use Rattle.figures.specs.Alike.{same_result, same_holding, same_sighting, is_some}
+use Rattle.figures.specs.Alike.{same_result, same_holding, same_sighting, some_passes}
 use Rattle.figures.specs.Numbers.{advance_number, open_number}
 
 pub data Row : Type 0 where
@@ -78,9 +78,9 @@ opened_text u = let out = 0 ∷ 0 ∷ 0 ∷ 0 ∷ [] in text_of (opened u out) (
 
 abbrev pub holds : Row → Bool
 holds (advance from to answer) = same_result nat_eq (hashes_of (advanced bench.hash (copy from 0) to)) answer
-holds (one_step r3) = is_some (λ c. nat_eq c.r3.value r3) (stepped bench.hash (copy 0 0))
-holds (in_groups n bytes) = bytes_eq (varint n) bytes && is_some (λ read. nat_eq read.0 n) (read_varint bytes)
+holds (one_step r3) = some_passes (λ c. nat_eq c.r3.value r3) (stepped bench.hash (copy 0 0))
+holds (in_groups n bytes) = bytes_eq (varint n) bytes && some_passes (λ read. nat_eq read.0 n) (read_varint bytes)
 holds (seals text message) = bytes_eq (sealed bench (copy 0 0) text) message
 holds (opens message answer) = same_result bytes_eq (opened_text (unsealed bench (holdings (Held (copy 0 0) ∷ [])) message)) answer
-holds (held hs h) = is_some (same_holding h) (holdings hs)
-holds (sighted ss s) = is_some (same_sighting s) (sightings ss)
+holds (held hs h) = some_passes (same_holding h) (holdings hs)
+holds (sighted ss s) = some_passes (same_sighting s) (sightings ss)
