@@ -8,21 +8,21 @@ use Rattle.opening.proofs.unseal.unseal.Goals as goal
 pub returns-in_err-frame : goal.returns-in_err-frame
 returns-in_err-frame g c =
     let u = unframed g.P.Suite.suite c.args.shown c.args.message.now c.in_err-frame.field-0.0 c.in_err-frame.ensures in
-    let p = err_from_is_err_and c.from-residual.result c.from-residual.ensures.1 in
+    let p = err_from_is_err_and c.from_residual.result c.from_residual.ensures.1 in
     record {
       value = p.1 ∙ ap Err p.2 ∙ ap told (sym u);
       after = ap (λ x. text_over x c.args.scratch.now) (sym u);
-      fits = IfOk-from_err c.from-residual.result _ c.from-residual.ensures.0;
+      fits = IfOk-from_err c.from_residual.result _ c.from_residual.ensures.0;
     }
 
 pub returns-in_err-there : goal.returns-in_err-there
 returns-in_err-there g c =
     let u = unheld g.P.Suite.suite c.args.shown c.args.message.now c.in_ok-frame.frame c.in_err-there.field-0.0 c.in_ok-frame.ensures c.in_err-there.ensures in
-    let p = err_from_is_err_and c.from-residual-in_err-there.result c.from-residual-in_err-there.ensures.1 in
+    let p = err_from_is_err_and c.from_residual-in_err-there.result c.from_residual-in_err-there.ensures.1 in
     record {
       value = p.1 ∙ ap Err p.2 ∙ ap told (sym u);
       after = ap (λ x. text_over x c.args.scratch.now) (sym u);
-      fits = IfOk-from_err c.from-residual-in_err-there.result _ c.from-residual-in_err-there.ensures.0;
+      fits = IfOk-from_err c.from_residual-in_err-there.result _ c.from_residual-in_err-there.ensures.0;
     }
 
 pub check-requires : goal.check-requires
