@@ -26,7 +26,7 @@ returns-in-Some g c =
     let slots = c.args.slots.now in
     let x = c.index-slots-i.result in
     let t =
-    takes_joined g.K.Key.rank g.row.V-Value.join g.row.V-Value.raise g.met.V.Value.laws slots c.args.key c.args.value
+    takes_joined g.K.Key.rank g.V.Value.join g.V.Value.raise g.met.V.Value.laws slots c.args.key c.args.value
     c.in-Some.i x c.joined_slot.result c.in-Some.ensures
     (place_read (has_key g.K.Key.rank c.args.key) slots c.in-Some.i x c.in-Some.ensures c.index-slots-i.is) c.joined_slot.ensures in
     record { answer = t.answer; after = t.after; refused = t.refused }
@@ -42,13 +42,13 @@ bounds-slots-i-in-Some-free_place g c = (place_at is_free _ _ c.in-Some-free_pla
 pub returns-in-Some-free_place : goal.returns-in-Some-free_place
 returns-in-Some-free_place g c =
     let t =
-    takes_entered g.K.Key.rank g.row.V-Value.join g.row.V-Value.raise g.met.V.Value.laws c.args.slots.now c.args.key c.args.value
+    takes_entered g.K.Key.rank g.V.Value.join g.V.Value.raise g.met.V.Value.laws c.args.slots.now c.args.key c.args.value
     c.in-Some-free_place.i c.in_default.ensures c.in-Some-free_place.ensures in
     record { answer = t.answer; after = t.after; refused = t.refused }
 
 pub returns-in-None : goal.returns-in-None
 returns-in-None g c =
     let t =
-    takes_refused g.K.Key.rank g.row.V-Value.join g.row.V-Value.raise g.met.V.Value.laws c.args.slots.now c.args.key c.args.value
+    takes_refused g.K.Key.rank g.V.Value.join g.V.Value.raise g.met.V.Value.laws c.args.slots.now c.args.key c.args.value
     c.in_default.ensures c.in-None.ensures in
     record { answer = t.answer; after = t.after; refused = t.refused }

@@ -4,5 +4,5 @@ use Rattle.floors.proofs.layer.FloorLayerStore.free.Goals as goal
 pub returns : goal.returns
 returns g c = record {
   value = c.free.ensures.value;
-  ascends = each_rising g.K.Key.rank (g.row.V-Value.raise c.args.self.now.floor) 0 (g.T.Store.means c.args.self.now.below).entries c.free.ensures.ascends;
+  ascends = each_rising g.K.Key.rank (g.V.Value.raise c.args.self.now.floor) 0 (g.T.Store.means c.args.self.now.below).entries c.free.ensures.ascends;
 }

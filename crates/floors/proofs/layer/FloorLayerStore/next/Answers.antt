@@ -5,7 +5,7 @@ use Rattle.floors.proofs.layer.FloorLayerStore.next.Goals as goal
 
 pub returns : goal.returns
 returns g c =
-    let up = g.row.V-Value.raise c.args.self.now.floor in
+    let up = g.V.Value.raise c.args.self.now.floor in
     let m = (g.T.Store.means c.args.self.now.below).entries in
     record {
       value = c.raised_entry.ensures ∙ ap (option_map (λ e. (e.0, up e.1))) c.next.ensures.value ∙ sym (each_first g.K.Key.rank up m c.args.last.now);

@@ -7,8 +7,8 @@ use Rattle.floors.proofs.layer.FloorLayerStore.take.Goals as goal
 pub returns : goal.returns
 returns g c =
     let rank = g.K.Key.rank in
-    let join = g.row.V-Value.join in
-    let raise = g.row.V-Value.raise in
+    let join = g.V.Value.join in
+    let raise = g.V.Value.raise in
     let laws = g.met.V.Value.laws in
     let f = c.args.self.now.floor in
     let m = g.T.Store.means c.args.self.now.below in
