@@ -16,7 +16,7 @@ pub struct FloorLayer<T> {
 }
 
 fn raised_value<V: Value>(found: Option<V>, floor: u32) -> Option<V>
-    ensures { result ≡ option_map (raise floor) found }
+    ensures { result ≡ option_map (V.raise floor) found }
 {
     match found {
         Some(v) => Some(v.raised(floor)),
@@ -25,7 +25,7 @@ fn raised_value<V: Value>(found: Option<V>, floor: u32) -> Option<V>
 }
 
 fn raised_entry<K: Key, V: Value>(entry: Option<(K, V)>, floor: u32) -> Option<(K, V)>
-    ensures { result ≡ option_map (λ e. (e.0, raise floor e.1)) entry }
+    ensures { result ≡ option_map (λ e. (e.0, V.raise floor e.1)) entry }
 {
     match entry {
         Some(e) => Some((e.0, e.1.raised(floor))),
@@ -44,11 +44,11 @@ impl<K: Key, V: Value, T: Store<K, V>> Store<K, V> for FloorLayer<T> {
 
     // Beside what every store promises: the store below takes the value raised.
     fn take(&mut self, key: K, value: V) -> Result<(), StoreRefusal>
-        ensures answer { result ≡ answer (room rank (floored raise self.old.floor (means self.old.below)) key) }
-        ensures after { floored raise self.new.floor (means self.new.below) ≡ taken rank join raise (floored raise self.old.floor (means self.old.below)) key value }
-        ensures steady { (self.new.floor ≡ self.old.floor) × steady self.old.below self.new.below }
-        ensures refused { result ≡ Err NoPlace → unaltered self.old.below self.new.below }
-        ensures below { means self.new.below ≡ taken rank join raise (means self.old.below) key (raise self.old.floor value) }
+        ensures answer { result ≡ answer (room K.rank (floored V.raise self.old.floor (T.means self.old.below)) key) }
+        ensures after { floored V.raise self.new.floor (T.means self.new.below) ≡ taken K.rank V.join V.raise (floored V.raise self.old.floor (T.means self.old.below)) key value }
+        ensures steady { (self.new.floor ≡ self.old.floor) × T.steady self.old.below self.new.below }
+        ensures refused { result ≡ Err NoPlace → T.unaltered self.old.below self.new.below }
+        ensures below { T.means self.new.below ≡ taken K.rank V.join V.raise (T.means self.old.below) key (V.raise self.old.floor value) }
     {
         self.below.take(key, value.raised(self.floor))
     }

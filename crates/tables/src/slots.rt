@@ -16,7 +16,7 @@ pub enum Slot<K, V> {
 }
 
 fn key_place<K: Key, V: Copy>(slots: &[Slot<K, V>], key: K) -> Option<usize>
-    ensures { result ≡ place (has_key rank key) slots.now }
+    ensures { result ≡ place (has_key K.rank key) slots.now }
 {
     for (i, slot) in slots.iter().enumerate() {
         if let Slot::Held(k, _) = slot {
@@ -61,7 +61,7 @@ fn value_of<K: Copy, V: Copy>(slot: Slot<K, V>) -> Option<V>
 }
 
 pub(crate) fn look_in<K: Key, V: Copy>(slots: &[Slot<K, V>], key: K) -> Option<V>
-    ensures { result ≡ looked rank (slots_mean rank slots.now) key }
+    ensures { result ≡ looked K.rank (slots_mean K.rank slots.now) key }
 {
     match key_place(slots, key) {
         Some(i) => value_of(slots[i]),
@@ -71,7 +71,7 @@ pub(crate) fn look_in<K: Key, V: Copy>(slots: &[Slot<K, V>], key: K) -> Option<V
 
 // The lower of two entries, if the second stands above the last key at all.
 fn lower_of<K: Key, V: Copy>(last: Option<K>, best: Option<(K, V)>, k: K, v: V) -> Option<(K, V)>
-    ensures { result ≡ (if above rank last k then lower rank best k v else best) }
+    ensures { result ≡ (if above K.rank last k then lower K.rank best k v else best) }
 {
     if let Some(b) = last {
         if !b.below(k) {
@@ -85,7 +85,7 @@ fn lower_of<K: Key, V: Copy>(last: Option<K>, best: Option<(K, V)>, k: K, v: V) 
 }
 
 pub(crate) fn lowest_above<K: Key, V: Copy>(slots: &[Slot<K, V>], last: Option<K>) -> Option<(K, V)>
-    ensures { result ≡ lowest rank last None slots.now }
+    ensures { result ≡ lowest K.rank last None slots.now }
 {
     let mut best = None;
     for slot in slots {
@@ -98,7 +98,7 @@ pub(crate) fn lowest_above<K: Key, V: Copy>(slots: &[Slot<K, V>], last: Option<K
 
 // A slot with the value joined to what it held.
 fn joined_slot<K: Key, V: Value>(slot: Slot<K, V>, key: K, value: V) -> Slot<K, V>
-    ensures { result ≡ slot_joined join slot key value }
+    ensures { result ≡ slot_joined V.join slot key value }
 {
     match slot {
         Slot::Held(_, held) => Slot::Held(key, held.joined(value)),
@@ -111,8 +111,8 @@ pub(crate) fn take_in<K: Key, V: Value>(
     key: K,
     value: V,
 ) -> Result<(), StoreRefusal>
-    ensures answer { result ≡ answer (room rank (slots_mean rank slots.old) key) }
-    ensures after { slots_mean rank slots.new ≡ taken rank join raise (slots_mean rank slots.old) key value }
+    ensures answer { result ≡ answer (room K.rank (slots_mean K.rank slots.old) key) }
+    ensures after { slots_mean K.rank slots.new ≡ taken K.rank V.join V.raise (slots_mean K.rank slots.old) key value }
     ensures refused { result ≡ Err NoPlace → slots.new ≡ slots.old }
 {
     if let Some(i) = key_place(slots, key) {

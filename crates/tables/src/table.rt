@@ -52,7 +52,7 @@ impl<K: Key, V: Value> Store<K, V> for Table<'_, K, V> {
 
 // Clears all slots, and makes a table of those in front, at most as many as the limit.
 fn table_over<'a, K: Key, V: Value>(slots: &'a mut [Slot<K, V>], limit: usize) -> Table<'a, K, V>
-    ensures means { slots_mean rank result.slots.now ≡ empty (min (length slots.old) limit) }
+    ensures means { slots_mean K.rank result.slots.now ≡ empty (min (length slots.old) limit) }
     ensures lent { length slots.old ≤ limit → result.slots.ghost_name ≡ slots.entry.ghost_name }
 {
     clear(slots);
