@@ -56,7 +56,8 @@ pub(crate) fn add_bytes(out: &mut Vec<u8>, bytes: &[u8]) -> Result<(), AllocErro
 pub(crate) fn add_number(out: &mut Vec<u8>, n: u64) -> Result<(), AllocError>
     ensures { OnOk result (out.new.items ≡ out.old.items ++ (32 ∷ decimal n)) }
 {
-    let text = format!(in out.allocator(); "{n}")?;
+    let heap = *out.allocator();
+    let text = format!(in heap; "{n}")?;
     add_word(out, text.as_str().as_bytes())
 }
 

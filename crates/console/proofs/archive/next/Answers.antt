@@ -6,8 +6,8 @@ use Rattle.script.specs.Words.{hex_word}
 use Rattle.console.proofs.Added.{twice, line_of}
 use Rattle.console.proofs.archive.next.Goals as goal
 
-pub returns-in_ok-add_id : goal.returns-in_ok-add_id
-returns-in_ok-add_id g c =
+pub returns-in_ok-add_id-in-Some : goal.returns-in_ok-add_id-in-Some
+returns-in_ok-add_id-in-Some g c =
     let m = g.P.Suite.suite in
     let e = c.in-Some.e in
     let b = vec_items c.append.new.out in
@@ -16,7 +16,7 @@ returns-in_ok-add_id g c =
     let id = 32 ∷ hex_word (id_bytes e.0) in
     let held = shown_holding m e.1 in
     line_of r (vec_items c.args.desk.now.answers) b d (codes "next") (id ++ held) _ (ap (next_line m) c.in-Some.ensures.value)
-    c.in_ok-append.ensures (twice r b (vec_items c.add_id.new.out) d id held c.in_ok-add_id.ensures c.add_holding.ensures)
+    c.in_ok-append.ensures (twice r b (vec_items c.add_id.new.out) d id held c.in_ok-add_id-in-Some.ensures c.add_holding.ensures)
 
 pub returns-in-None : goal.returns-in-None
 returns-in-None g c =
