@@ -1,7 +1,7 @@
 #!/usr/bin/env python3
 """Compares the built console with the model on random scripts, good lines and bad.
 
-    model/compare.py [LINES [SEED]]     after ./run or rt check console
+    model/compare.py [LINES [SEED]]     after ./run
 """
 import os
 import random
@@ -101,7 +101,7 @@ def main():
     writer = Writer(random.Random(seed))
     script = "\n".join(["archive bench slots 4 16 0"] + [writer.line() for _ in range(count)]).encode()
     run = lambda words: subprocess.run(words, input=script, stdout=subprocess.PIPE, check=True).stdout
-    told = run([os.path.join(TOP, "target/bin/console")])
+    told = run([os.path.join(TOP, "crates/console/out/console")])
     expected = run([sys.executable, os.path.join(TOP, "model/console.py")])
     if told == expected:
         print(f"{count} lines by seed {seed}: {len(told.splitlines())} answers, all equal")
