@@ -12,7 +12,7 @@ use Rattle.copy_bytes.specs.Output.{answered, filled}
 use Rattle.sending.specs.declared.sender.Sender.{Sender}
 use Rattle.message.specs.Seal.{sealed}
 use Rattle.copy_bytes.proofs.Outputs.{answered_fits}
-use Rattle.sending.specs.Sender.{at_start, Kept, refused_as, seal_space, seal_answer, seal_output, moved, after_seal}
+use Rattle.sending.specs.Sender.{at_start, Kept, seal_size, seal_answer, seal_output, moved, after_seal}
 
 module _ {P : Type 0} (m : Meaning P) where
   start_index : (bs : List ℕ) (c : SessionCopy P) → Ok c ≡ read_start m bs → c.index ≡ 0
@@ -58,7 +58,7 @@ module _ {P : Type 0} (m : Meaning P) where
       let small = le-leb (length text) 4096 short in
       let may = and_from _ _ small (not_from_false s.spent unspent) in
       let all = and_from _ _ may (answered_fits (sealed m s.current text) out size e) in (
-        ap (refused_as seal_space) e ∙ sym (cond-true _ _ _ small ∙ cond-false _ _ _ unspent),
+        ap seal_size e ∙ sym (cond-true _ _ _ small ∙ cond-false _ _ _ unspent),
         f ∙ sym (cond-true _ _ _ may),
         ap (moved s) n ∙ sym (cond-true _ _ _ all),
         next_kept s next n unspent,

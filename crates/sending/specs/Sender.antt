@@ -18,23 +18,26 @@ use Rattle.sending.specs.declared.sender.ShareRefusal.{ShareRefusal}
 use Rattle.sending.specs.declared.sender.ShareRefusal.TheVariants.{TooSmall as NoRoom, Ahead}
 use Rattle.message.specs.Seal.{sealed}
 
--- an answer whose refusal is told as another call's
-abbrev pub refused_as : {E F : Type 0} → (E → F) → Result ℕ E → Result ℕ F
-refused_as f (Ok n) = Ok n
-refused_as f (Err e) = Err (f e)
-
 abbrev pub seal_space : SpaceRefusal → SealRefusal
 seal_space TooSmall = NoSpace
 
+abbrev pub seal_size : Result ℕ SpaceRefusal → Result ℕ SealRefusal
+seal_size (Ok n) = Ok n
+seal_size (Err e) = Err (seal_space e)
+
 abbrev pub share_space : SpaceRefusal → ShareRefusal
 share_space TooSmall = NoRoom
+
+abbrev pub share_size : Result ℕ SpaceRefusal → Result ℕ ShareRefusal
+share_size (Ok n) = Ok n
+share_size (Err e) = Err (share_space e)
 
 module _ {P : Type 0} where
   abbrev pub at_start : Id → SessionCopy P → Sender P
   at_start id c = record { id = id; start = c; current = c; spent = false }
 
   abbrev pub from_start : Id → Result (SessionCopy P) CopyFault → Result (Sender P) CopyFault
-  from_start id (Ok c) = Ok (at_start id c)
+  from_start id (Ok c) = Ok (record { id = id; start = c; current = c; spent = false })
   from_start id (Err e) = Err e
 
   abbrev pub may_seal : Sender P → List ℕ → Bool
@@ -63,7 +66,7 @@ module _ {P : Type 0} where
     -- a long text is refused before a spent sender, and that before an output without space
     abbrev pub seal_answer : Sender P → List ℕ → List ℕ → Result ℕ SealRefusal
     seal_answer s text out =
-        cond (nat_le (length text) 4096) (cond s.spent (Err Spent) (refused_as seal_space (answered (sealed m s.current text) out))) (Err TextTooLong)
+        cond (nat_le (length text) 4096) (cond s.spent (Err Spent) (seal_size (answered (sealed m s.current text) out))) (Err TextTooLong)
 
     abbrev pub seal_output : Sender P → List ℕ → List ℕ → List ℕ
     seal_output s text out = cond (may_seal s text) (filled (sealed m s.current text) out) out
@@ -77,7 +80,7 @@ module _ {P : Type 0} where
     shared s index = copy_bytes m Share (record { id = s.id; copy = reached s index })
 
     abbrev pub share_answer : Sender P → ℕ → List ℕ → Result ℕ ShareRefusal
-    share_answer s index out = cond (nat_le index s.current.index) (refused_as share_space (answered (shared s index) out)) (Err Ahead)
+    share_answer s index out = cond (nat_le index s.current.index) (share_size (answered (shared s index) out)) (Err Ahead)
 
     abbrev pub share_output : Sender P → ℕ → List ℕ → List ℕ
     share_output s index out = cond (nat_le index s.current.index) (filled (shared s index) out) out
