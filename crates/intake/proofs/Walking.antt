@@ -1,5 +1,5 @@
 -- A merge by one take after another: how the new keys are counted, and what is still to come.
-use Rattle.std.proofs.Common.{◌≡◌, ℕ, suc, ◌+◌, ◌-◌, ◌≤◌, true, cond, List, [], ◌∷◌, is_some, Some, None, Option, sym, refl, ap, ◌∙◌, subst, inl, inr, arith}
+use Rattle.std.proofs.Common.{◌≡◌, ℕ, suc, Bool, not, ◌+◌, ◌-◌, ◌≤◌, true, cond, List, [], ◌∷◌, is_some, Some, None, Option, sym, refl, ap, ◌∙◌, subst, inl, inr, arith}
 use Rattle.std.proofs.lemmas.Bool.Decides.{nat_tests}
 use Rattle.std.proofs.lemmas.Bool.{leb-true, lt-ltb, cases_Bool, or_left, or_right}
 use Rattle.store.specs.Maps.{Rising, found, beyond, put, first, each}
@@ -12,6 +12,11 @@ module _ {K V : Type 0} (rank : K → ℕ) where
   pub next_fresh : (m s : List (K × V)) (o : Option K) (e : K × V) → Rising rank 0 s → Some e ≡ first (beyond rank s o) →
       fresh rank m (beyond rank s o) ≡ cond (is_some (found rank m e.0)) 0 1 + fresh rank m (beyond rank s (Some e.0))
   next_fresh m s o e r h = ap (fresh rank m) (next_rest rank s o e r h)
+
+  -- an entry whose key the map lacks counts one
+  pub next_new : (m s : List (K × V)) (o : Option K) (e : K × V) (x : Option V) (none : Bool) → Rising rank 0 s → Some e ≡ first (beyond rank s o) →
+      x ≡ found rank m e.0 → is_some x ≡ not none → none ≡ true → fresh rank m (beyond rank s o) ≡ 1 + fresh rank m (beyond rank s (Some e.0))
+  next_new m s o e x none r h l i n = let f = next_fresh m s o e r h in grind (arith, nat_tests)
 
 module _ {K V : Type 0} (rank : K → ℕ) (join : V → V → V) where
   -- a key that is put makes no later key new or known

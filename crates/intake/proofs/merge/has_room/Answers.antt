@@ -2,7 +2,7 @@ use Rattle.std.proofs.Common.{ap, arith}
 use Rattle.std.proofs.lemmas.Bool.Decides.{nat_tests}
 use Rattle.store.proofs.Lookups.{next_less, first_none}
 use Rattle.intake.specs.Merging.{fresh}
-use Rattle.intake.proofs.Walking.{next_fresh}
+use Rattle.intake.proofs.Walking.{next_fresh, next_new}
 use Rattle.intake.proofs.merge.has_room.Goals as goal
 use Rattle.intake.proofs.merge.has_room.Goals.{then-is_none+else-left-eq0, else-is_none}
 
@@ -28,7 +28,9 @@ loop-e-preserved g c =
     let f = next_fresh g.K.Key.rank m.entries s c.loop-e.last c.in-Some.e c.in-Some.ensures.ascends c.in-Some.ensures.value in
     let i = c.loop-e.invariant in
     elim c.if-is_none.branch [
-      | then-is_none+else-left-eq0 w ↦ let a = w.if-is_none.ensures in let l = w.left-is in let n = w.if-left-eq0.false in grind (arith, nat_tests)
+      | then-is_none+else-left-eq0 w ↦
+          let d = next_new g.K.Key.rank m.entries s c.loop-e.last c.in-Some.e c.look.result c.is_none.result c.in-Some.ensures.ascends c.in-Some.ensures.value c.look.ensures c.is_none.ensures w.if-is_none.true in
+          omega (arith, d, i, w.left-is, w.if-left-eq0.false)
       | else-is_none w ↦ let a = w.if-is_none.ensures in let l = w.left-is in grind (arith, nat_tests)
     ]
 
