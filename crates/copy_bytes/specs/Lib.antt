@@ -1,4 +1,5 @@
 pub mod CopyBytes
 pub mod Laws
+pub mod Numbers
 pub mod Output
 pub mod Placed

@@ -1,3 +1,6 @@
+ghost use Rattle.std.specs.Prelude.{◌≡◌};
+ghost use Rattle.copy_bytes.specs.Numbers.{copy_number};
+
 use ratchet::copies::SessionCopy;
 use ratchet::ids::Id;
 
@@ -27,4 +30,12 @@ pub enum Accepted {
 pub enum CopyFault {
     Length = 1,
     Version = 2,
+}
+
+impl From<CopyFault> for u8 {
+    ghost from_gives = { λ r n. n ≡ copy_number r };
+
+    fn from(fault: CopyFault) -> u8 {
+        fault as u8
+    }
 }

@@ -1,5 +1,6 @@
 ghost use Rattle.std.specs.Prelude.{◌≡◌};
 ghost use Rattle.copy_bytes.specs.Output.{answered, filled};
+ghost use Rattle.copy_bytes.specs.Numbers.{space_number};
 
 use crate::placing::put_at;
 
@@ -7,6 +8,14 @@ use crate::placing::put_at;
 #[derive(Clone, Copy)]
 pub enum SpaceRefusal {
     TooSmall = 16,
+}
+
+impl From<SpaceRefusal> for u8 {
+    ghost from_gives = { λ r n. n ≡ space_number r };
+
+    fn from(want: SpaceRefusal) -> u8 {
+        want as u8
+    }
 }
 
 // Fills the front of an output, and answers how much; what lies behind stays.

@@ -1,4 +1,3 @@
 pub mod Alike
-pub mod Numbers
 pub mod Rows
 pub mod Table

@@ -11,6 +11,7 @@ use Rattle.ratchet.specs.declared.copies.AdvanceRefusal.{AdvanceRefusal}
 use Rattle.ratchet.specs.Advance.{advanced, stepped}
 use Rattle.ratchet.specs.Ids.{id_number}
 use Rattle.ratchet.specs.Join.{join, raised}
+use Rattle.ratchet.specs.Numbers.{advance_number}
 use Rattle.store.specs.declared.sighting.Sighting.{Sighting}
 use Rattle.store.specs.declared.spot.Spot.{Spot}
 use Rattle.store.specs.Keys.{spot_number}
@@ -20,11 +21,11 @@ use Rattle.message.specs.Seal.{sealed}
 use Rattle.message.specs.Varint.{varint, read_varint}
 use Rattle.opening.specs.declared.unseal.Opened.{Opened}
 use Rattle.opening.specs.declared.unseal.OpenRefusal.{OpenRefusal}
+use Rattle.opening.specs.Numbers.{open_number}
 use Rattle.opening.specs.Open.{Unsealed, unsealed, opened, open_output}
 use Rattle.bench_suite.specs.declared.word.Word.{Word}
 use Rattle.bench_suite.specs.Bench.{word, bench}
 use Rattle.figures.specs.Alike.{same_result, same_holding, same_sighting, some_passes}
-use Rattle.figures.specs.Numbers.{advance_number, open_number}
 
 pub data Row : Type 0 where
   -- an advance from one index to another, and its hashes or its refusal

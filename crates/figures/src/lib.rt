@@ -1,7 +1,6 @@
 // The worked figures as one table, and one computed proof that every row of it holds.
 #![tactic(auto)]
 
-pub mod numbers;
 #[cfg(test)]
 mod tests;
 pub mod worked;

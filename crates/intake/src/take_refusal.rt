@@ -1,5 +1,6 @@
 ghost use Rattle.std.specs.Prelude.{◌≡◌};
 ghost use Rattle.intake.specs.Taking.{of_copy, of_store};
+ghost use Rattle.intake.specs.Numbers.{take_number};
 
 use copy_bytes::named::CopyFault;
 use store::refusal::StoreRefusal;
@@ -10,6 +11,14 @@ pub enum TakeRefusal {
     Length = 1,
     Version = 2,
     NoPlace = 3,
+}
+
+impl From<TakeRefusal> for u8 {
+    ghost from_gives = { λ r n. n ≡ take_number r };
+
+    fn from(taking: TakeRefusal) -> u8 {
+        taking as u8
+    }
 }
 
 impl From<CopyFault> for TakeRefusal {

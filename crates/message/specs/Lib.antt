@@ -1,3 +1,4 @@
 pub mod Frame
+pub mod Numbers
 pub mod Seal
 pub mod Varint

@@ -1,5 +1,6 @@
 ghost use Rattle.std.specs.Prelude.{◌≡◌, ◌≤◌, length};
 ghost use Rattle.message.specs.Frame.{keyed, starts, cipher_at, framed, FrameLaw};
+ghost use Rattle.message.specs.Numbers.{frame_number};
 
 use crate::varint::read_varint;
 use ratchet::suite::Suite;
@@ -19,6 +20,14 @@ pub enum FrameFault {
     Index = 8,
     Cipher = 9,
     Length = 10,
+}
+
+impl From<FrameFault> for u8 {
+    ghost from_gives = { λ r n. n ≡ frame_number r };
+
+    fn from(flaw: FrameFault) -> u8 {
+        flaw as u8
+    }
 }
 
 // The number behind a key byte, and how many bytes it takes.

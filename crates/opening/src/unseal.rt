@@ -1,6 +1,7 @@
 ghost use Rattle.std.specs.Prelude.{◌≡◌, ◌+◌, ◌≤◌, true, length, IfOk};
 ghost use Rattle.std.specs.Str.{bytes_eq};
 ghost use Rattle.opening.specs.Open.{frame_refusal, held_at, checked, unsealed, told, text_over};
+ghost use Rattle.opening.specs.Numbers.{open_number};
 
 use message::frame::{Frame, FrameFault, read_frame};
 use ratchet::advance::advance;
@@ -28,6 +29,14 @@ pub enum OpenRefusal {
     Tag = 14,
     Text = 15,
     TooSmall = 16,
+}
+
+impl From<OpenRefusal> for u8 {
+    ghost from_gives = { λ r n. n ≡ open_number r };
+
+    fn from(reason: OpenRefusal) -> u8 {
+        reason as u8
+    }
 }
 
 impl From<FrameFault> for OpenRefusal {

@@ -4,6 +4,7 @@ pub mod Cost
 pub mod Ids
 pub mod Join
 pub mod Laws
+pub mod Numbers
 pub mod Passes
 pub mod Ratchet
 pub mod Suite

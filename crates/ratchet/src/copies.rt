@@ -1,3 +1,6 @@
+ghost use Rattle.std.specs.Prelude.{◌≡◌};
+ghost use Rattle.ratchet.specs.Numbers.{advance_number};
+
 // A copy of a session: an index and four parts of the suite's own kind.
 #[derive(Clone, Copy)]
 pub struct SessionCopy<P> {
@@ -28,6 +31,14 @@ pub enum Level {
 #[derive(Clone, Copy)]
 pub enum AdvanceRefusal {
     TargetBelow = 21,
+}
+
+impl From<AdvanceRefusal> for u8 {
+    ghost from_gives = { λ r n. n ≡ advance_number r };
+
+    fn from(refusal: AdvanceRefusal) -> u8 {
+        refusal as u8
+    }
 }
 
 // What an advance answers: the copy reached, and how many hashes that took.

@@ -1,6 +1,7 @@
 ghost use Rattle.std.specs.Prelude.{◌≡◌, ◌-◌, IfOk};
 ghost use Rattle.ratchet.specs.Ratchet.{steps};
 ghost use Rattle.sending.specs.Sender.{at_start, Kept, reached, new_sender, seal_space, seal_answer, seal_output, after_seal, share_space, share_answer, share_output};
+ghost use Rattle.sending.specs.Numbers.{seal_number, share_number};
 
 use crate::sealing::write_sealed;
 use copy_bytes::named::{CopyFault, NamedCopy, Version};
@@ -29,11 +30,27 @@ pub enum SealRefusal {
     Spent = 19,
 }
 
+impl From<SealRefusal> for u8 {
+    ghost from_gives = { λ r n. n ≡ seal_number r };
+
+    fn from(sealing: SealRefusal) -> u8 {
+        sealing as u8
+    }
+}
+
 // Why a copy is not shared, by its number.
 #[derive(Clone, Copy)]
 pub enum ShareRefusal {
     TooSmall = 16,
     Ahead = 20,
+}
+
+impl From<ShareRefusal> for u8 {
+    ghost from_gives = { λ r n. n ≡ share_number r };
+
+    fn from(sharing: ShareRefusal) -> u8 {
+        sharing as u8
+    }
 }
 
 impl From<SpaceRefusal> for SealRefusal {
