@@ -4,7 +4,7 @@ ghost use Rattle.copy_bytes.specs.Output.{answered, filled};
 use crate::placing::put_at;
 
 // Why an output is not filled, by its number.
-#[derive(Clone, Copy)]
+#[derive(Clone, Copy, Debug, PartialEq, Eq)]
 pub enum SpaceRefusal {
     TooSmall = 16,
 }
