@@ -1,5 +1,5 @@
 -- Writing one piece after another into an output.
-use Rattle.std.proofs.Common.{◌≡◌, ℕ, zero, suc, ◌+◌, ◌-◌, ◌/◌, ◌%◌, ◌^◌, ◌<◌, ◌≤◌, List, [], ◌∷◌, ◌++◌, length, take, drop, Err, sym, ap, ◌∙◌, append_assoc, arith, length-append, length-drop, length-take, drop-drop, take_at, drop_at}
+use Rattle.std.proofs.Common.{◌≡◌, ℕ, zero, suc, ◌+◌, ◌-◌, ◌/◌, ◌%◌, ◌^◌, ◌<◌, ◌≤◌, List, [], ◌∷◌, ◌++◌, length, take, drop, Err, sym, subst, ap, ◌∙◌, append_assoc, arith, length-append, length-drop, length-take, drop-drop, take_at, drop_at}
 use borrow.Rule.Slice.PartMut.{put_mid}
 use Rattle.std.proofs.lemmas.List.{length-take-le}
 use Rattle.std.proofs.lemmas.Bool.{lt-leb, cond-false}
@@ -40,9 +40,13 @@ put_join {a} {b} {e} {xs} {ys} {old} {cur} {new} f g =
     }
 
 -- the last byte of a number, as the code has it
-pub be_last : (n v : ℕ) → take n (be (suc n) v) ++ (v % 256 ∷ []) ≡ be (suc n) v
+be_last : (n v : ℕ) → take n (be (suc n) v) ++ (v % 256 ∷ []) ≡ be (suc n) v
 be_last zero v = let z : v % 256 ≡ v / 1 % 256 = omega arith in ap (λ x. x ∷ []) z
 be_last (suc n) v = ap (λ bs. (v / 256 ^ suc n % 256) ∷ bs) (be_last n v)
+
+-- a number's bytes, put as the code has them
+pub put_be : {at r : ℕ} {bs old new : List ℕ} (n v : ℕ) → bs ≡ take n (be (suc n) v) ++ (v % 256 ∷ []) → Put at bs old r new → Put at (be (suc n) v) old r new
+put_be {at} {r} {bs} {old} {new} n v e p = subst (λ xs. Put at xs old r new) (e ∙ be_last n v) p
 
 -- an output that is too short is refused as it was
 pub too_small : (xs out : List ℕ) (n : ℕ) → length xs ≡ n → length out < n → (Err TooSmall ≡ answered xs out) × (out ≡ filled xs out)

@@ -6,7 +6,7 @@ ghost use Rattle.copy_bytes.specs.Placed.{Put};
 
 use crate::named::{NamedCopy, Version};
 use crate::output::SpaceRefusal;
-use crate::placing::{put_at, put_id, put_index, put_part};
+use crate::placing::{put_at, put_id, put_part};
 use ratchet::ids::Id;
 use ratchet::suite::Suite;
 
@@ -31,7 +31,7 @@ fn lay_copy<P: Suite>(version: Version, named: &NamedCopy<P>, out: &mut [u8]) ->
     ensures { Put 0 (copy_bytes P.suite version named.now) out.old result out.new }
 {
     let a = put_at(&[byte_of::<P>(version)], out, 0);
-    let b = put_index(named.copy.index, out, a);
+    let b = put_at(&named.copy.index.to_be_bytes(), out, a);
     let c = put_part(named.copy.r0, out, b);
     let d = put_part(named.copy.r1, out, c);
     let e = put_part(named.copy.r2, out, d);
