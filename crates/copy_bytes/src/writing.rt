@@ -6,7 +6,7 @@ ghost use Rattle.copy_bytes.specs.Placed.{Put};
 
 use crate::named::{NamedCopy, Version};
 use crate::output::SpaceRefusal;
-use crate::placing::{put_at, put_id, put_part};
+use crate::placing::Pen;
 use ratchet::ids::Id;
 use ratchet::suite::Suite;
 
@@ -30,13 +30,15 @@ fn lay_copy<P: Suite>(version: Version, named: &NamedCopy<P>, out: &mut [u8]) ->
     requires { copy_length P.suite ≤ length out.old }
     ensures { Put 0 (copy_bytes P.suite version named.now) out.old result out.new }
 {
-    let a = put_at(&[byte_of::<P>(version)], out, 0);
-    let b = put_at(&named.copy.index.to_be_bytes(), out, a);
-    let c = put_part(named.copy.r0, out, b);
-    let d = put_part(named.copy.r1, out, c);
-    let e = put_part(named.copy.r2, out, d);
-    let f = put_part(named.copy.r3, out, e);
-    put_id(named.id, out, f)
+    let mut pen = Pen { out, at: 0 };
+    pen.put(&[byte_of::<P>(version)]);
+    pen.put(&named.copy.index.to_be_bytes());
+    pen.part(named.copy.r0);
+    pen.part(named.copy.r1);
+    pen.part(named.copy.r2);
+    pen.part(named.copy.r3);
+    pen.id(named.id);
+    pen.at
 }
 
 // Writes a copy with one of its suite's version bytes.
@@ -62,5 +64,7 @@ pub fn write_id(id: Id, out: &mut [u8]) -> Result<usize, SpaceRefusal>
     if out.len() < 32 {
         return Err(SpaceRefusal::TooSmall);
     }
-    Ok(put_id(id, out, 0))
+    let mut pen = Pen { out, at: 0 };
+    pen.id(id);
+    Ok(pen.at)
 }
