@@ -1,6 +1,6 @@
-ghost use Rattle.std.specs.Prelude.{◌≡◌, ◌+◌, ◌≤◌, length};
+ghost use Rattle.std.specs.Prelude.{◌+◌, ◌≤◌, length};
 ghost use Rattle.ratchet.specs.Ids.{id_bytes};
-ghost use Rattle.copy_bytes.specs.Placed.{Put};
+ghost use Rattle.copy_bytes.specs.Placed.{Wrote};
 
 use ratchet::ids::Id;
 use ratchet::suite::Suite;
@@ -15,8 +15,7 @@ pub(crate) struct Pen<'a> {
 impl Pen<'_> {
     pub(crate) fn put(&mut self, bytes: &[u8])
         requires { self.old.at + length bytes.now ≤ length self.old.out.now }
-        ensures same { self.new.out.ghost_name ≡ self.old.out.ghost_name }
-        ensures put { Put self.old.at bytes.now self.old.out.now self.new.at self.new.out.now }
+        ensures { Wrote self.old bytes.now self.new }
     {
         let end = self.at + bytes.len();
         self.out[self.at..end].copy_from_slice(bytes);
@@ -25,8 +24,7 @@ impl Pen<'_> {
 
     pub(crate) fn part<P: Suite>(&mut self, p: P)
         requires { self.old.at + P.suite.width ≤ length self.old.out.now }
-        ensures same { self.new.out.ghost_name ≡ self.old.out.ghost_name }
-        ensures put { Put self.old.at (P.suite.encode p) self.old.out.now self.new.at self.new.out.now }
+        ensures { Wrote self.old (P.suite.encode p) self.new }
     {
         let end = self.at + P::width();
         p.write(&mut self.out[self.at..end]);
@@ -35,8 +33,7 @@ impl Pen<'_> {
 
     pub(crate) fn id(&mut self, id: Id)
         requires { self.old.at + 32 ≤ length self.old.out.now }
-        ensures same { self.new.out.ghost_name ≡ self.old.out.ghost_name }
-        ensures put { Put self.old.at (id_bytes id) self.old.out.now self.new.at self.new.out.now }
+        ensures { Wrote self.old (id_bytes id) self.new }
     {
         self.put(&id.w0.to_be_bytes());
         self.put(&id.w1.to_be_bytes());

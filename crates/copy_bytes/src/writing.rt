@@ -57,6 +57,7 @@ pub fn write_copy<P: Suite>(
 }
 
 // Writes the 32 bytes of an id.
+#[tactic(auto, using(crate::proofs::Ids::length_id))]
 pub fn write_id(id: Id, out: &mut [u8]) -> Result<usize, SpaceRefusal>
     ensures value { result ≡ answered (id_bytes id) out.old }
     ensures after { out.new ≡ filled (id_bytes id) out.old }
