@@ -1,4 +1,4 @@
-ghost use Rattle.std.specs.Prelude.{◌≡◌, ◌+◌, ◌*◌, ◌≤◌, length, take, drop};
+ghost use Rattle.std.specs.Prelude.{◌≡◌, ◌*◌, ◌≤◌, length, take, drop};
 ghost use Rattle.std.specs.Int.Digits.{number_from_digits};
 ghost use Rattle.ratchet.specs.Ids.{word, id_of};
 ghost use Rattle.copy_bytes.specs.CopyBytes.{accepts, copy_length, copy_of, named_of, read_copy, read_start, read_id};

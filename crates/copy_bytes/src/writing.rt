@@ -1,8 +1,7 @@
-ghost use Rattle.std.specs.Prelude.{◌≡◌, ◌+◌, ◌*◌, ◌≤◌, length};
+ghost use Rattle.std.specs.Prelude.{◌≡◌};
 ghost use Rattle.ratchet.specs.Ids.{id_bytes};
 ghost use Rattle.copy_bytes.specs.CopyBytes.{version_byte, copy_bytes, copy_length};
 ghost use Rattle.copy_bytes.specs.Output.{answered, filled};
-ghost use Rattle.copy_bytes.specs.Placed.{Put};
 
 use crate::named::{NamedCopy, Version};
 use crate::output::SpaceRefusal;
@@ -26,21 +25,6 @@ fn byte_of<P: Suite>(version: Version) -> u8
     }
 }
 
-fn lay_copy<P: Suite>(version: Version, named: &NamedCopy<P>, out: &mut [u8]) -> usize
-    requires { copy_length P.suite ≤ length out.old }
-    ensures { Put 0 (copy_bytes P.suite version named.now) out.old result out.new }
-{
-    let mut pen = Pen { out, at: 0 };
-    pen.put(&[byte_of::<P>(version)]);
-    pen.put(&named.copy.index.to_be_bytes());
-    pen.part(named.copy.r0);
-    pen.part(named.copy.r1);
-    pen.part(named.copy.r2);
-    pen.part(named.copy.r3);
-    pen.id(named.id);
-    pen.at
-}
-
 // Writes a copy with one of its suite's version bytes.
 pub fn write_copy<P: Suite>(
     version: Version,
@@ -53,7 +37,15 @@ pub fn write_copy<P: Suite>(
     if out.len() < copy_length::<P>() {
         return Err(SpaceRefusal::TooSmall);
     }
-    Ok(lay_copy(version, named, out))
+    let mut pen = Pen { out, at: 0 };
+    pen.put(&[byte_of::<P>(version)]);
+    pen.put(&named.copy.index.to_be_bytes());
+    pen.part(named.copy.r0);
+    pen.part(named.copy.r1);
+    pen.part(named.copy.r2);
+    pen.part(named.copy.r3);
+    pen.id(named.id);
+    Ok(pen.at)
 }
 
 // Writes the 32 bytes of an id.
