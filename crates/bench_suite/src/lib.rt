@@ -25,10 +25,8 @@ mod tests {
 
     #[test]
     fn step_and_tag(rt: HostRuntime) -> Result<(), Fail> {
-        match advance(zeros(), 1) {
-            Ok(there) => assert_eq!(rt; there.copy.r3.value, 0x9E37_79B9_7F4A_7C16),
-            Err(_) => return Err(Fail::new("refused")),
-        }
+        let there = advance(zeros(), 1).map_err(|_| Fail::new("refused"))?;
+        assert_eq!(rt; there.copy.r3.value, 0x9E37_79B9_7F4A_7C16);
         let message = [0x43, 0x08, 0x00, 0x12, 0x02, 0x75, 0x70];
         let tag = <Word as Suite>::tag(&zeros(), &message);
         assert_eq!(rt; u64::from_be_bytes(tag), 0x10_D009_1710);

@@ -1,21 +1,10 @@
-ghost use Rattle.std.specs.Prelude.{◌≡◌, fold};
-ghost use Rattle.bench_suite.specs.Bench.{number_of, hashed, mixed, bench};
+ghost use Rattle.std.specs.Prelude.{◌≡◌, fold, refl};
+ghost use Rattle.bench_suite.specs.Bench.{hashed, mixed, bench};
 ghost use Rattle.bench_suite.specs.Laws.{bench_lawful};
 
 use crate::word::Word;
 use ratchet::copies::{Level, SessionCopy};
 use ratchet::suite::Suite;
-
-fn number_of(level: Level) -> u64
-    ensures { result ≡ number_of level }
-{
-    match level {
-        Level::L0 => 0,
-        Level::L1 => 1,
-        Level::L2 => 2,
-        Level::L3 => 3,
-    }
-}
 
 // The hash of a part's number by the level with the number j.
 fn hash_number(value: u64, j: u64) -> u64
@@ -38,6 +27,8 @@ fn fold_tag(start: u64, bytes: &[u8]) -> u64
 impl Suite for Word {
     ghost suite = { bench };
 
+    ghost compares = { λ p q. refl };
+
     ghost lawful = { bench_lawful };
 
     fn width() -> usize {
@@ -58,12 +49,8 @@ impl Suite for Word {
 
     fn hashed(self, level: Level) -> Word {
         Word {
-            value: hash_number(self.value, number_of(level)),
+            value: hash_number(self.value, level as u64),
         }
-    }
-
-    fn same(self, other: Word) -> bool {
-        self.value == other.value
     }
 
     fn write(self, out: &mut [u8]) {
@@ -71,10 +58,8 @@ impl Suite for Word {
     }
 
     fn read(bytes: &[u8]) -> Word {
-        let [a, b, c, d] = [bytes[0], bytes[1], bytes[2], bytes[3]];
-        let [e, f, g, h] = [bytes[4], bytes[5], bytes[6], bytes[7]];
         Word {
-            value: u64::from_be_bytes([a, b, c, d, e, f, g, h]),
+            value: u64::from_be_bytes(bytes.try_into().unwrap()),
         }
     }
 

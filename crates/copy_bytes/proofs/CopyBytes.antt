@@ -1,18 +1,16 @@
 -- Copy bytes: their length, that they are bytes, and how they are read.
-use Rattle.std.proofs.Common.{◌≡◌, ℕ, ◌+◌, ◌*◌, List, ◌++◌, length, take, drop, ap, ◌∙◌, arith, length-append}
-use Rattle.std.specs.Int.Digits.{number_from_digits}
+use Rattle.std.proofs.Common.{◌≡◌, ◌+◌, ◌*◌, ◌++◌, length, arith, length-append}
 use Rattle.std.specs.List.{AllByRecursion}
 use Rattle.std.proofs.ByRecursion.{All-append}
 use Rattle.ratchet.specs.declared.copies.SessionCopy.{SessionCopy}
-use Rattle.ratchet.specs.declared.ids.Id.{Id}
 use Rattle.ratchet.specs.Bytes.{Byte, be}
-use Rattle.ratchet.specs.Ids.{id_bytes, id_of}
+use Rattle.ratchet.specs.Ids.{id_bytes}
 use Rattle.ratchet.specs.Suite.{Meaning, Lawful}
 use Rattle.ratchet.proofs.Bytes.{under_be}
 use Rattle.copy_bytes.specs.declared.named.NamedCopy.{NamedCopy}
 use Rattle.copy_bytes.specs.declared.named.Version.{Version}
 use Rattle.copy_bytes.specs.declared.named.Version.TheVariants.{Share, Export}
-use Rattle.copy_bytes.specs.CopyBytes.{version_byte, part_bytes, copy_bytes, copy_of, named_of}
+use Rattle.copy_bytes.specs.CopyBytes.{version_byte, part_bytes, copy_bytes}
 use Rattle.copy_bytes.proofs.Ids.{length_id, bytes_id}
 
 module _ {P : Type 0} (m : Meaning P) (laws : Lawful m) where
@@ -50,12 +48,3 @@ module _ {P : Type 0} (m : Meaning P) (laws : Lawful m) where
   bytes_copy v n =
       let rest = All-append Byte (part_bytes m n.copy) (id_bytes n.id) (bytes_parts n.copy) (bytes_id n.id) in
       (byte_version v, All-append Byte (be 4 n.copy.index) (part_bytes m n.copy ++ id_bytes n.id) (under_be 4 n.copy.index) rest)
-
--- what the code reads, with its own names for the width w and the index i
-pub named_read : {P : Type 0} (m : Meaning P) (bs : List ℕ) (w i : ℕ) (id : Id) (copy : SessionCopy P) → w ≡ m.width → i ≡ number_from_digits 256 (take 4 (drop 1 bs))
-    → id ≡ id_of (drop (5 + 4 * w) bs) → copy ≡ copy_of m i 5 bs → record { id = id; copy = copy } ≡ named_of m bs
-unfolding named_of
-named_read m bs w i id copy ew ei eid ecopy =
-    let fid = eid ∙ ap (λ n. id_of (drop (5 + 4 * n) bs)) ew in
-    let fcopy = ecopy ∙ ap (λ n. copy_of m n 5 bs) ei in
-    λ j. record { id = fid j; copy = fcopy j }

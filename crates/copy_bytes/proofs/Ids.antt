@@ -1,5 +1,5 @@
 -- Ids with the same words are one, and their bytes go there and back.
-use Rattle.std.proofs.Common.{◌≡◌, ℕ, ◌+◌, ◌*◌, ◌/◌, ◌%◌, ◌^◌, ◌<◌, ◌≤◌, List, [], ◌∷◌, ◌++◌, length, get_or, take, drop, sym, refl, ap, ◌∙◌, add-zero, mod-eq_of_lt, zero-add, arith, length-drop, take-append-drop, length-take, get_or-drop, take_all, drop-drop}
+use Rattle.std.proofs.Common.{◌≡◌, ℕ, ◌+◌, ◌*◌, ◌/◌, ◌%◌, ◌^◌, ◌<◌, ◌≤◌, List, [], ◌∷◌, ◌++◌, length, take, drop, sym, refl, ap, ◌∙◌, mod-eq_of_lt, zero-add, arith, length-drop, take-append-drop, length-take, take_all, drop-drop}
 use mathlib.Core.Path.{PathP}
 use mathlib.Core.HLevel.{is_prop→PathP}
 use native.Mathlib.Bridge.{le_prop}
@@ -7,7 +7,7 @@ use lib.Arith.{digits_div, digits_mod}
 use Rattle.std.specs.Int.Digits.{number_from_digits_after, number_from_digits, AllBelowBase}
 use Rattle.std.specs.List.{AllByRecursion}
 use Rattle.std.proofs.ByRecursion.{All-take, All-drop, All-append}
-use Rattle.std.proofs.lemmas.Int.Digits.{number_lt, number_more}
+use Rattle.std.proofs.lemmas.Int.Digits.{number_lt}
 use Rattle.ratchet.specs.declared.ids.Id.{Id}
 use Rattle.ratchet.specs.Bytes.{Byte, be}
 use Rattle.ratchet.specs.Ids.{id_number, id_bytes, id_of, word}
@@ -93,28 +93,3 @@ id_one k l e =
     let s2 = split _ _ k.w2 l.w2 k.fits2 l.fits2 s3.0 in
     let s1 = split k.w0 l.w0 k.w1 l.w1 k.fits1 l.fits1 s2.0 in
     id_path k l s1.0 s1.1 s2.1 s3.1
-
--- the bytes of a number, one by one
-pub four : (xs : List ℕ) → 4 ≤ length xs → number_from_digits 256 (take 4 xs) ≡ get_or xs 0 0 * 16777216 + get_or xs 1 0 * 65536 + get_or xs 2 0 * 256 + get_or xs 3 0
-four xs h =
-    omega (arith, number_more 256 xs 0 (omega arith), number_more 256 xs 1 (omega arith), number_more 256 xs 2 (omega arith), number_more 256 xs 3 (omega arith))
-
-pub eight : (xs : List ℕ) → 8 ≤ length xs
-    → number_from_digits 256 (take 8 xs) ≡ get_or xs 0 0 * 72057594037927936 + get_or xs 1 0 * 281474976710656 + get_or xs 2 0 * 1099511627776 + get_or xs 3 0 * 4294967296
-    + get_or xs 4 0 * 16777216 + get_or xs 5 0 * 65536 + get_or xs 6 0 * 256 + get_or xs 7 0
-eight xs h =
-    let front = four xs (omega arith) in
-    omega (arith, number_more 256 xs 4 (omega arith), number_more 256 xs 5 (omega arith), number_more 256 xs 6 (omega arith), number_more 256 xs 7 (omega arith))
-
--- a word at a place, as the code reads it
-pub word_read : (bs : List ℕ) (i r : ℕ) → i + 8 ≤ length bs → r < 2 ^ 64
-    → r ≡ get_or bs i 0 * 72057594037927936 + get_or bs (i + 1) 0 * 281474976710656 + get_or bs (i + 2) 0 * 1099511627776 + get_or bs (i + 3) 0 * 4294967296
-    + get_or bs (i + 4) 0 * 16777216 + get_or bs (i + 5) 0 * 65536 + get_or bs (i + 6) 0 * 256 + get_or bs (i + 7) 0
-    → r ≡ word (drop i bs)
-word_read bs i r h fits is =
-    let xs = drop i bs in
-    let l : 8 ≤ length xs = simp length-drop (omega arith) in
-    let z : get_or xs 0 0 ≡ get_or bs i 0 = get_or-drop i bs 0 0 ∙ ap (λ n. get_or bs n 0) (add-zero i) in
-    let same : number_from_digits 256 (take 8 xs) ≡ r =
-    omega (arith, eight xs l, get_or-drop i bs 1 0, get_or-drop i bs 2 0, get_or-drop i bs 3 0, get_or-drop i bs 4 0, get_or-drop i bs 5 0, get_or-drop i bs 6 0, get_or-drop i bs 7 0) in
-    sym (ap (λ n. n % 2 ^ 64) same ∙ mod-eq_of_lt fits)

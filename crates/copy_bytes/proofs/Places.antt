@@ -1,12 +1,13 @@
 -- Writing one piece after another into an output.
-use Rattle.std.proofs.Common.{◌≡◌, ℕ, zero, suc, ◌+◌, ◌-◌, ◌/◌, ◌%◌, ◌^◌, ◌<◌, ◌≤◌, List, [], ◌∷◌, ◌++◌, length, take, drop, Err, sym, ap, ◌∙◌, append_assoc, arith, length-append, length-drop, length-take, drop-drop, take_at, drop_at}
+use Rattle.std.proofs.Common.{◌≡◌, ℕ, zero, suc, ◌+◌, ◌-◌, ◌/◌, ◌%◌, ◌^◌, ◌<◌, ◌≤◌, List, [], ◌∷◌, ◌++◌, length, take, drop, Err, sym, subst, ap, ◌∙◌, append_assoc, arith, length-append, length-drop, length-take, drop-drop, take_at, drop_at}
 use borrow.Rule.Slice.PartMut.{put_mid}
 use Rattle.std.proofs.lemmas.List.{length-take-le}
 use Rattle.std.proofs.lemmas.Bool.{lt-leb, cond-false}
 use Rattle.ratchet.specs.Bytes.{be}
 use Rattle.copy_bytes.specs.declared.output.SpaceRefusal.TheVariants.{TooSmall}
 use Rattle.copy_bytes.specs.Output.{fits, answered, filled}
-use Rattle.copy_bytes.specs.Placed.{placed, Put}
+use Rattle.copy_bytes.specs.Placed.{placed, Put, Wrote}
+use Rattle.copy_bytes.specs.declared.placing.Pen.{Pen}
 
 -- a write to the part from a to e
 pub placed_part : (a e : ℕ) (old ys xs : List ℕ) → ys ≡ xs → e ≡ a + length xs → put_mid a (e - a) old ys ≡ placed a xs old
@@ -40,9 +41,20 @@ put_join {a} {b} {e} {xs} {ys} {old} {cur} {new} f g =
     }
 
 -- the last byte of a number, as the code has it
-pub be_last : (n v : ℕ) → take n (be (suc n) v) ++ (v % 256 ∷ []) ≡ be (suc n) v
+be_last : (n v : ℕ) → take n (be (suc n) v) ++ (v % 256 ∷ []) ≡ be (suc n) v
 be_last zero v = let z : v % 256 ≡ v / 1 % 256 = omega arith in ap (λ x. x ∷ []) z
 be_last (suc n) v = ap (λ bs. (v / 256 ^ suc n % 256) ∷ bs) (be_last n v)
+
+-- the same of a pen
+pub wrote_join : {p q r : Pen} {xs ys : List ℕ} → Wrote p xs q → Wrote q ys r → Wrote p (xs ++ ys) r
+wrote_join f g = record { same = g.same ∙ f.same; put = put_join f.put g.put }
+
+pub wrote_is : {p q : Pen} {xs ys : List ℕ} → xs ≡ ys → Wrote p xs q → Wrote p ys q
+wrote_is {p} {q} e w = subst (λ zs. Wrote p zs q) e w
+
+-- a number's bytes, as the code has them
+pub wrote_be : {p q : Pen} {bs : List ℕ} (n v : ℕ) → bs ≡ take n (be (suc n) v) ++ (v % 256 ∷ []) → Wrote p bs q → Wrote p (be (suc n) v) q
+wrote_be n v e w = wrote_is (e ∙ be_last n v) w
 
 -- an output that is too short is refused as it was
 pub too_small : (xs out : List ℕ) (n : ℕ) → length xs ≡ n → length out < n → (Err TooSmall ≡ answered xs out) × (out ≡ filled xs out)

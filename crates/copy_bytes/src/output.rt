@@ -2,10 +2,8 @@ ghost use Rattle.std.specs.Prelude.{◌≡◌};
 ghost use Rattle.copy_bytes.specs.Output.{answered, filled};
 ghost use Rattle.copy_bytes.specs.Numbers.{space_number};
 
-use crate::placing::put_at;
-
 // Why an output is not filled, by its number.
-#[derive(Clone, Copy)]
+#[derive(Clone, Copy, Debug, PartialEq, Eq)]
 pub enum SpaceRefusal {
     TooSmall = 16,
 }
@@ -26,5 +24,6 @@ pub fn put(bytes: &[u8], out: &mut [u8]) -> Result<usize, SpaceRefusal>
     if out.len() < bytes.len() {
         return Err(SpaceRefusal::TooSmall);
     }
-    Ok(put_at(bytes, out, 0))
+    out[..bytes.len()].copy_from_slice(bytes);
+    Ok(bytes.len())
 }

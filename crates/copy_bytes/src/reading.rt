@@ -1,7 +1,7 @@
-ghost use Rattle.std.specs.Prelude.{◌≡◌, ◌+◌, ◌*◌, ◌≤◌, length, take, drop};
+ghost use Rattle.std.specs.Prelude.{◌≡◌, ◌*◌, ◌≤◌, length, take, drop};
 ghost use Rattle.std.specs.Int.Digits.{number_from_digits};
 ghost use Rattle.ratchet.specs.Ids.{word, id_of};
-ghost use Rattle.copy_bytes.specs.CopyBytes.{accepts, copy_length, part_at, copy_of, named_of, read_copy, read_start, read_id};
+ghost use Rattle.copy_bytes.specs.CopyBytes.{accepts, copy_length, copy_of, named_of, read_copy, read_start, read_id};
 
 use crate::named::{Accepted, CopyFault, NamedCopy};
 use crate::writing::copy_length;
@@ -9,53 +9,40 @@ use ratchet::copies::SessionCopy;
 use ratchet::ids::Id;
 use ratchet::suite::Suite;
 
-fn word_at(bytes: &[u8], at: usize) -> u64
-    requires { at + 8 ≤ length bytes.now }
-    ensures { result ≡ word (drop at bytes.now) }
+// The word in the first 8 bytes.
+fn word_in(bytes: &[u8]) -> u64
+    requires { 8 ≤ length bytes.now }
+    ensures { result ≡ word bytes.now }
 {
-    u64::from_be_bytes([
-        bytes[at],
-        bytes[at + 1],
-        bytes[at + 2],
-        bytes[at + 3],
-        bytes[at + 4],
-        bytes[at + 5],
-        bytes[at + 6],
-        bytes[at + 7],
-    ])
+    u64::from_be_bytes(*bytes.first_chunk().unwrap())
 }
 
-fn id_at(bytes: &[u8], at: usize) -> Id
-    requires { at + 32 ≤ length bytes.now }
-    ensures { result ≡ id_of (drop at bytes.now) }
+// The id in the first 32 bytes.
+fn id_in(bytes: &[u8]) -> Id
+    requires { 32 ≤ length bytes.now }
+    ensures { result ≡ id_of bytes.now }
 {
     Id {
-        w0: word_at(bytes, at),
-        w1: word_at(bytes, at + 8),
-        w2: word_at(bytes, at + 16),
-        w3: word_at(bytes, at + 24),
+        w0: word_in(bytes),
+        w1: word_in(&bytes[8..]),
+        w2: word_in(&bytes[16..]),
+        w3: word_in(&bytes[24..]),
     }
 }
 
-fn part_at<P: Suite>(bytes: &[u8], at: usize) -> P
-    requires { at + P.suite.width ≤ length bytes.now }
-    ensures { result ≡ part_at P.suite at bytes.now }
-{
-    let end = at + P::width();
-    P::read(&bytes[at..end])
-}
-
-fn copy_at<P: Suite>(bytes: &[u8], at: usize, index: u32) -> SessionCopy<P>
-    requires { at + 4 * P.suite.width ≤ length bytes.now }
-    ensures { result ≡ copy_of P.suite index at bytes.now }
+// The copy whose four parts stand in front.
+#[tactic(auto, unfolding(crate::specs::CopyBytes::copy_of))]
+fn copy_in<P: Suite>(bytes: &[u8], index: u32) -> SessionCopy<P>
+    requires { 4 * P.suite.width ≤ length bytes.now }
+    ensures { result ≡ copy_of P.suite index 0 bytes.now }
 {
     let w = P::width();
     SessionCopy {
         index,
-        r0: part_at(bytes, at),
-        r1: part_at(bytes, at + w),
-        r2: part_at(bytes, at + 2 * w),
-        r3: part_at(bytes, at + 3 * w),
+        r0: P::read(&bytes[..w]),
+        r1: P::read(&bytes[w..2 * w]),
+        r2: P::read(&bytes[2 * w..3 * w]),
+        r3: P::read(&bytes[3 * w..4 * w]),
     }
 }
 
@@ -64,16 +51,17 @@ fn index_in(bytes: &[u8]) -> u32
     requires { 5 ≤ length bytes.now }
     ensures { result ≡ number_from_digits 256 (take 4 (drop 1 bytes.now)) }
 {
-    u32::from_be_bytes([bytes[1], bytes[2], bytes[3], bytes[4]])
+    u32::from_be_bytes(*bytes[1..].first_chunk().unwrap())
 }
 
+#[tactic(auto, unfolding(crate::specs::CopyBytes::named_of, crate::specs::CopyBytes::copy_of))]
 fn named_in<P: Suite>(bytes: &[u8]) -> NamedCopy<P>
     requires { length bytes.now ≡ copy_length P.suite }
     ensures { result ≡ named_of P.suite bytes.now }
 {
     NamedCopy {
-        id: id_at(bytes, 5 + 4 * P::width()),
-        copy: copy_at(bytes, 5, index_in(bytes)),
+        id: id_in(&bytes[5 + 4 * P::width()..]),
+        copy: copy_in(&bytes[5..], index_in(bytes)),
     }
 }
 
@@ -105,7 +93,7 @@ pub fn read_start<P: Suite>(bytes: &[u8]) -> Result<SessionCopy<P>, CopyFault>
     ensures { result ≡ read_start P.suite bytes.now }
 {
     if bytes.len() == 4 * P::width() {
-        Ok(copy_at(bytes, 0, 0))
+        Ok(copy_in(bytes, 0))
     } else {
         Err(CopyFault::Length)
     }
@@ -116,7 +104,7 @@ pub fn read_id(bytes: &[u8]) -> Result<Id, CopyFault>
     ensures { result ≡ read_id bytes.now }
 {
     if bytes.len() == 32 {
-        Ok(id_at(bytes, 0))
+        Ok(id_in(bytes))
     } else {
         Err(CopyFault::Length)
     }

@@ -1,12 +1,11 @@
-ghost use Rattle.std.specs.Prelude.{◌≡◌, ◌+◌, ◌*◌, ◌≤◌, length};
+ghost use Rattle.std.specs.Prelude.{◌≡◌};
 ghost use Rattle.ratchet.specs.Ids.{id_bytes};
 ghost use Rattle.copy_bytes.specs.CopyBytes.{version_byte, copy_bytes, copy_length};
 ghost use Rattle.copy_bytes.specs.Output.{answered, filled};
-ghost use Rattle.copy_bytes.specs.Placed.{Put};
 
 use crate::named::{NamedCopy, Version};
 use crate::output::SpaceRefusal;
-use crate::placing::{put_at, put_id, put_index, put_part};
+use crate::placing::Pen;
 use ratchet::ids::Id;
 use ratchet::suite::Suite;
 
@@ -26,19 +25,6 @@ fn byte_of<P: Suite>(version: Version) -> u8
     }
 }
 
-fn lay_copy<P: Suite>(version: Version, named: &NamedCopy<P>, out: &mut [u8]) -> usize
-    requires { copy_length P.suite ≤ length out.old }
-    ensures { Put 0 (copy_bytes P.suite version named.now) out.old result out.new }
-{
-    let a = put_at(&[byte_of::<P>(version)], out, 0);
-    let b = put_index(named.copy.index, out, a);
-    let c = put_part(named.copy.r0, out, b);
-    let d = put_part(named.copy.r1, out, c);
-    let e = put_part(named.copy.r2, out, d);
-    let f = put_part(named.copy.r3, out, e);
-    put_id(named.id, out, f)
-}
-
 // Writes a copy with one of its suite's version bytes.
 pub fn write_copy<P: Suite>(
     version: Version,
@@ -51,10 +37,19 @@ pub fn write_copy<P: Suite>(
     if out.len() < copy_length::<P>() {
         return Err(SpaceRefusal::TooSmall);
     }
-    Ok(lay_copy(version, named, out))
+    let mut pen = Pen { out, at: 0 };
+    pen.put(&[byte_of::<P>(version)]);
+    pen.put(&named.copy.index.to_be_bytes());
+    pen.part(named.copy.r0);
+    pen.part(named.copy.r1);
+    pen.part(named.copy.r2);
+    pen.part(named.copy.r3);
+    pen.id(named.id);
+    Ok(pen.at)
 }
 
 // Writes the 32 bytes of an id.
+#[tactic(auto, using(crate::proofs::Ids::length_id))]
 pub fn write_id(id: Id, out: &mut [u8]) -> Result<usize, SpaceRefusal>
     ensures value { result ≡ answered (id_bytes id) out.old }
     ensures after { out.new ≡ filled (id_bytes id) out.old }
@@ -62,5 +57,7 @@ pub fn write_id(id: Id, out: &mut [u8]) -> Result<usize, SpaceRefusal>
     if out.len() < 32 {
         return Err(SpaceRefusal::TooSmall);
     }
-    Ok(put_id(id, out, 0))
+    let mut pen = Pen { out, at: 0 };
+    pen.id(id);
+    Ok(pen.at)
 }

@@ -6,7 +6,7 @@ use Rattle.ratchet.specs.declared.copies.Level.{Level}
 use Rattle.ratchet.specs.declared.copies.Level.TheVariants.{L0, L1, L2, L3}
 use Rattle.ratchet.specs.Ratchet.{unit, part, spread, at, reseed, rep, steps}
 use Rattle.ratchet.specs.Cost.{count, reach, price, cost}
-use Rattle.ratchet.specs.Passes.{span, passed}
+use Rattle.ratchet.specs.Passes.{passed}
 use Rattle.ratchet.proofs.Fast.{n0, n1, n2, n3, fast, fast_steps, reseed_at}
 
 -- a number that is not 0 is one more than its predecessor
@@ -114,23 +114,6 @@ module _ {P : Type 0} (H : Level → P → P) where
   pub passed_le : (j : Level) (t : ℕ) (c : SessionCopy P) → c.index ≤ t → (passed H j t c).index ≤ t
   passed_le j t c le = let k = top_le j t in let e = passed_index j t c in let f = last j c.index t le in omega arith
 
-  -- what the code of a level computes, with its own names for the unit u, the part p, the hashed part q and the new copy x
-  pub pass_stays : (j : Level) (t u : ℕ) (c : SessionCopy P) → u ≡ unit j → count u c.index t ≡ 0
-      → (c ≡ passed H j t c) × (0 ≡ price (span j) (count (unit j) c.index t))
-  pass_stays j t u c eu h =
-      let k : count (unit j) c.index t ≡ 0 = rw eu at h in
-      (sym (stays j t c k), sym (cond-true _ _ _ (eq-eqb _ _ k)))
-
-  pub pass_goes : (j : Level) (t u w : ℕ) (p q : P) (c x : SessionCopy P) → u ≡ unit j → (count u c.index t ≡ 0 → ⊥) → p ≡ part j c
-      → q ≡ rep (H j) (count u c.index t - 1) p → x ≡ at (u * (t / u)) (spread H j q c) → w ≡ span j
-      → (x ≡ passed H j t c) × (count u c.index t - 1 + w ≡ price (span j) (count (unit j) c.index t))
-  pass_goes j t u w p q c x eu h ep eq ex ew =
-      let k : count (unit j) c.index t ≡ 0 → ⊥ = λ z. h (ap (λ v. count v c.index t) eu ∙ z) in
-      let f : q ≡ rep (H j) (count (unit j) c.index t - 1) (part j c) = eq ∙ (λ i. rep (H j) (count (eu i) c.index t - 1) (ep i)) in (
-        ex ∙ (λ i. at (eu i * (t / eu i)) (spread H j (f i) c)) ∙ sym (goes j t c k),
-        (λ i. count (eu i) c.index t - 1 + ew i) ∙ sym (cond-false _ _ _ (ne_eqb _ _ k)),
-      )
-
   -- the four levels, one after another
   abbrev pub p1 : SessionCopy P → ℕ → SessionCopy P
   p1 c t = passed H L0 t c
@@ -200,10 +183,6 @@ module _ {P : Type 0} (H : Level → P → P) where
       → e ≡ passed H L3 t d → z ≡ price 1 (count 1 d.index t)
       → (e ≡ steps H (t - c.index) c) × (w + x + y + z ≡ cost c.index t)
   walked c a b d e t w x y z le ea ew eb ex ed ey ee ez =
-      let fb : b ≡ p2 c t = eb ∙ ap (passed H L1 t) ea in
-      let fd : d ≡ p3 c t = ed ∙ ap (passed H L2 t) fb in
-      let fe : e ≡ p4 c t = ee ∙ ap (passed H L3 t) fd in
-      let fx : x ≡ price 3 (count 65536 (p1 c t).index t) = ex ∙ ap (λ v. price 3 (count 65536 v.index t)) ea in
-      let fy : y ≡ price 2 (count 256 (p2 c t).index t) = ey ∙ ap (λ v. price 2 (count 256 v.index t)) fb in
-      let fz : z ≡ price 1 (count 1 (p3 c t).index t) = ez ∙ ap (λ v. price 1 (count 1 v.index t)) fd in
-      (fe ∙ whole_steps c t le, (λ i. ew i + fx i + fy i + fz i) ∙ whole_cost c t le)
+      let s = whole_steps c t le in
+      let k = whole_cost c t le in
+      (cc, cc)

@@ -2,7 +2,7 @@ ghost use Rattle.std.specs.Prelude.{◌≡◌};
 ghost use Rattle.ratchet.specs.Numbers.{advance_number};
 
 // A copy of a session: an index and four parts of the suite's own kind.
-#[derive(Clone, Copy)]
+#[derive(Clone, Copy, Debug, PartialEq, Eq)]
 pub struct SessionCopy<P> {
     pub index: u32,
     pub r0: P,
@@ -12,23 +12,24 @@ pub struct SessionCopy<P> {
 }
 
 // What is held of a session: a copy, or the mark that copies of it disagreed.
-#[derive(Clone, Copy)]
+// Not an Option: a dispute is held too, and a store says by an Option whether anything is.
+#[derive(Clone, Copy, Debug, PartialEq, Eq)]
 pub enum Holding<P> {
     Held(SessionCopy<P>),
     Disputed,
 }
 
 // One of the four parts R0 to R3, and the hash H0 to H3 that makes it.
-#[derive(Clone, Copy)]
+#[derive(Clone, Copy, Debug, PartialEq, Eq, PartialOrd, Ord)]
 pub enum Level {
-    L0,
-    L1,
-    L2,
-    L3,
+    L0 = 0,
+    L1 = 1,
+    L2 = 2,
+    L3 = 3,
 }
 
 // Why an advance is refused, by its number.
-#[derive(Clone, Copy)]
+#[derive(Clone, Copy, Debug, PartialEq, Eq)]
 pub enum AdvanceRefusal {
     TargetBelow = 21,
 }
@@ -42,7 +43,7 @@ impl From<AdvanceRefusal> for u8 {
 }
 
 // What an advance answers: the copy reached, and how many hashes that took.
-#[derive(Clone, Copy)]
+#[derive(Clone, Copy, Debug, PartialEq, Eq)]
 pub struct Advanced<P> {
     pub copy: SessionCopy<P>,
     pub hashes: u32,

@@ -5,7 +5,7 @@ ghost use Rattle.ratchet.specs.Suite.{Meaning, Lawful, parts, Deciphered};
 use crate::copies::{Level, SessionCopy};
 
 // A suite, known by the type of its parts. Only generic code of these crates calls it.
-pub trait Suite: Copy {
+pub trait Suite: Copy + PartialEq {
     ghost suite: { Meaning Self };
 
     fn width() -> usize
@@ -22,9 +22,6 @@ pub trait Suite: Copy {
 
     fn hashed(self, level: Level) -> Self
         ensures { result ≡ suite.hash level self };
-
-    fn same(self, other: Self) -> bool
-        ensures { result ≡ suite.same self other };
 
     fn write(self, out: &mut [u8])
         requires { length out.old ≡ suite.width }
@@ -53,6 +50,9 @@ pub trait Suite: Copy {
         requires short { length cipher.now ≤ 4116 }
         requires room { 4111 ≤ length out.old }
         ensures { Deciphered (suite.decipher (parts copy.now) cipher.now) result out.old out.new };
+
+    // Two parts are equal by `==` just where the suite calls them the same.
+    ghost compares: { (p q : Self) → Self.eq p q ≡ suite.same p q };
 
     ghost lawful: { Lawful suite };
 }
