@@ -5,3 +5,4 @@ pub mod Maps
 pub mod Meaning
 pub mod Sightings
 pub mod Joining
+pub mod Ordering

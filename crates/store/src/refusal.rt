@@ -1,5 +1,5 @@
 // Why a store refuses, by its number.
-#[derive(Clone, Copy)]
+#[derive(Clone, Copy, Debug, PartialEq, Eq)]
 pub enum StoreRefusal {
     NoPlace = 3,
 }
