@@ -26,7 +26,7 @@ use std::io;
 use std::io::{Read, Write};
 use store::meaning::Store;
 use tables::slots::Slot;
-use tables::table::slot_store;
+use tables::table::Table;
 use walk::walk;
 
 fn answer_archive<P: Suite, S: Store<Id, Holding<P>>>(
@@ -45,7 +45,7 @@ fn free_slots<P: Suite>(
 ) -> Result<Vec<Slot<Id, Holding<P>>>, AllocError> {
     let mut slots = Vec::with_capacity(heap, places)?;
     for _ in 0..places {
-        slots.push(Slot::Free)?;
+        slots.push(None)?;
     }
     Ok(slots)
 }
@@ -79,9 +79,9 @@ fn serve<P: Suite, W: Write>(
 ) -> io::Result<Option<Plan>>
     ensures { IfOk result (λ o. OnSome o (extent (option_map (λ x. x.now) script.new.rest) < extent (option_map (λ x. x.now) script.old.rest))) }
 {
-    let mut slots = free_slots(heap, plan.places)?;
+    let mut slots = free_slots::<P>(heap, plan.places)?;
     let store = FloorLayer {
-        below: slot_store::<P>(&mut slots),
+        below: Table::over(&mut slots),
         floor: plan.floor,
     };
     serve_over(heap, store, script, desk, sink)

@@ -1,21 +1,15 @@
 -- A map with every value raised: what is found in it, what comes next, and what a take makes of it.
-use Rattle.std.proofs.Common.{◌≡◌, ℕ, suc, ◌-◌, max, cond, eqb, ltb, List, [], ◌∷◌, is_some, Some, None, Option, sym, refl, ap, ◌∙◌, inl, inr, arith}
+use Rattle.std.proofs.Common.{◌≡◌, ℕ, ◌-◌, max, cond, eqb, ltb, List, [], ◌∷◌, is_some, Some, None, Option, Result, sym, refl, ap, ◌∙◌, inl, inr, arith}
 use Rattle.std.specs.Option.{option_map}
 use Rattle.std.proofs.lemmas.Bool.{cases_Bool}
+use Rattle.store.specs.declared.refusal.StoreRefusal.{StoreRefusal}
 use Rattle.store.specs.Laws.{ValueLaws}
-use Rattle.store.specs.Maps.{Rising, found, beyond, put, each, first}
-use Rattle.store.specs.Meaning.{Meaning, looked, room, taken}
+use Rattle.store.specs.Maps.{found, beyond, put, each, first}
+use Rattle.store.specs.Meaning.{Meaning, answer, looked, room, taken}
+use Rattle.store.proofs.Lookups.{is_some_mapped}
 use Rattle.floors.specs.Floors.{floored}
 
-is_some_mapped : {A B : Type 0} (f : A → B) (o : Option A) → is_some (option_map f o) ≡ is_some o
-is_some_mapped f None = refl
-is_some_mapped f (Some x) = refl
-
 module _ {K V : Type 0} (rank : K → ℕ) (f : V → V) where
-  pub each_rising : (n : ℕ) (m : List (K × V)) → Rising rank n m → Rising rank n (each f m)
-  each_rising n [] r = tt
-  each_rising n (e ∷ m) r = (r.0, each_rising (suc (rank e.0)) m r.1)
-
   pub each_found : (m : List (K × V)) (k : K) → found rank (each f m) k ≡ option_map f (found rank m k)
   each_found [] k = refl
   each_found (e ∷ m) k = elim (cases_Bool (eqb (rank e.0) (rank k))) [ inl y ↦ rw y | inr y ↦ rw y (each_found m k) ]
@@ -42,11 +36,11 @@ module _ {K V : Type 0} (rank : K → ℕ) (join : V → V → V) (raise : ℕ �
   held_same : is_some (looked rank (floored raise f m) k) ≡ is_some (looked rank m k)
   held_same = ap is_some (each_found rank (raise f) m.entries k) ∙ is_some_mapped (raise f) (looked rank m k)
 
-  pub floored_room : room rank (floored raise f m) k ≡ room rank m k
+  floored_room : room rank (floored raise f m) k ≡ room rank m k
   floored_room = rw held_same
 
   -- raised to both floors, in either order, and joined below or above
-  pub floored_taken : (v : V) → floored raise f (taken rank join raise m k (raise f v)) ≡ taken rank join raise (floored raise f m) k v
+  floored_taken : (v : V) → floored raise f (taken rank join raise m k (raise f v)) ≡ taken rank join raise (floored raise f m) k v
   floored_taken v =
       let g = m.floor in
       let w = raise g (raise f v) in
@@ -62,3 +56,12 @@ module _ {K V : Type 0} (rank : K → ℕ) (join : V → V → V) (raise : ℕ �
       ] where
         of : ℕ → ℕ → List (K × V) → Meaning K V
         of a p es = record { entries = es; floor = a; places = p }
+
+  pub floored_answer : (r : Result (Unit {0}) StoreRefusal) → r ≡ answer (room rank m k) → r ≡ answer (room rank (floored raise f m) k)
+  floored_answer r h = h ∙ ap answer (sym floored_room)
+
+  pub floored_below : (v x : V) (n : Meaning K V) → n ≡ taken rank join raise m k x → x ≡ raise f v → n ≡ taken rank join raise m k (raise f v)
+  floored_below v x n h e = h ∙ ap (taken rank join raise m k) e
+
+  pub floored_after : (v : V) (n : Meaning K V) → n ≡ taken rank join raise m k (raise f v) → floored raise f n ≡ taken rank join raise (floored raise f m) k v
+  floored_after v n h = ap (floored raise f) h ∙ floored_taken v

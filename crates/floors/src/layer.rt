@@ -1,9 +1,9 @@
 ghost use Rattle.std.specs.Prelude.{◌≡◌, Err};
-ghost use Rattle.std.specs.Option.{option_map};
 ghost use Rattle.store.specs.declared.refusal.StoreRefusal.TheVariants.{NoPlace};
 ghost use Rattle.store.specs.Lasting.{by_name, by_part, by_both};
 ghost use Rattle.store.specs.Meaning.{room, answer, taken};
 ghost use Rattle.floors.specs.Floors.{floored};
+ghost use Rattle.store.proofs.Lookups.{each_rising};
 
 use store::meaning::{Key, Store, Value};
 use store::refusal::StoreRefusal;
@@ -15,24 +15,6 @@ pub struct FloorLayer<T> {
     pub floor: u32,
 }
 
-fn raised_value<V: Value>(found: Option<V>, floor: u32) -> Option<V>
-    ensures { result ≡ option_map (V.raise floor) found }
-{
-    match found {
-        Some(v) => Some(v.raised(floor)),
-        None => None,
-    }
-}
-
-fn raised_entry<K: Key, V: Value>(entry: Option<(K, V)>, floor: u32) -> Option<(K, V)>
-    ensures { result ≡ option_map (λ e. (e.0, V.raise floor e.1)) entry }
-{
-    match entry {
-        Some(e) => Some((e.0, e.1.raised(floor))),
-        None => None,
-    }
-}
-
 impl<K: Key, V: Value, T: Store<K, V>> Store<K, V> for FloorLayer<T> {
     ghost means = { λ s. floored V.Value.raise s.floor (T.Store.means s.below) };
 
@@ -41,6 +23,8 @@ impl<K: Key, V: Value, T: Store<K, V>> Store<K, V> for FloorLayer<T> {
     ghost lasts = { by_both (by_name (λ s. s.floor)) (by_part (λ s. s.below) T.Store.lasts) };
 
     ghost unaltered = { λ s t. T.Store.unaltered s.below t.below };
+
+    ghost ascends = { λ s. each_rising K.Key.rank (V.Value.raise s.floor) 0 (T.Store.means s.below).entries (T.Store.ascends s.below) };
 
     // Beside what every store promises: the store below takes the value raised.
     fn take(&mut self, key: K, value: V) -> Result<(), StoreRefusal>
@@ -54,11 +38,13 @@ impl<K: Key, V: Value, T: Store<K, V>> Store<K, V> for FloorLayer<T> {
     }
 
     fn look(&self, key: K) -> Option<V> {
-        raised_value(self.below.look(key), self.floor)
+        self.below.look(key).map(|v| v.raised(self.floor))
     }
 
     fn next(&self, last: &Option<K>) -> Option<(K, V)> {
-        raised_entry(self.below.next(last), self.floor)
+        self.below
+            .next(last)
+            .map(|(k, v)| (k, v.raised(self.floor)))
     }
 
     fn floor(&self) -> u32 {

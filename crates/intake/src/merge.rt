@@ -1,6 +1,6 @@
 ghost use Rattle.std.specs.Prelude.{◌≡◌, Err};
 ghost use Rattle.store.specs.declared.refusal.StoreRefusal.TheVariants.{NoPlace};
-ghost use Rattle.store.specs.Meaning.{Ascends, answer};
+ghost use Rattle.store.specs.Meaning.{answer};
 ghost use Rattle.intake.specs.Merging.{room_for, merged};
 
 use store::meaning::{Key, Store, Value};
@@ -8,8 +8,7 @@ use store::refusal::StoreRefusal;
 
 // Whether the places of `dst` suffice for all keys of `src` that it lacks.
 fn has_room<K: Key, V: Value, A: Store<K, V>, B: Store<K, V>>(dst: &A, src: &B) -> bool
-    ensures ascends { Ascends K.rank (A.means dst.now) }
-    ensures value { result ≡ room_for K.rank (A.means dst.now) (B.means src.now).entries }
+    ensures { result ≡ room_for K.rank (A.means dst.now) (B.means src.now).entries }
 {
     let mut left = dst.free();
     let mut last = None;

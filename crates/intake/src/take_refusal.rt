@@ -6,7 +6,7 @@ use copy_bytes::named::CopyFault;
 use store::refusal::StoreRefusal;
 
 // Why copy bytes are not taken, by its number.
-#[derive(Clone, Copy)]
+#[derive(Clone, Copy, Debug, PartialEq, Eq)]
 pub enum TakeRefusal {
     Length = 1,
     Version = 2,

@@ -4,3 +4,4 @@ pub mod Joins
 pub mod Passes
 pub mod Raises
 pub mod Steps
+pub mod Ordering

@@ -1,15 +1,23 @@
 -- Looking up, putting in and walking through a map whose ranks rise.
-use Rattle.std.proofs.Common.{◌≡◌, ℕ, suc, ◌<◌, ◌≤◌, cond, eqb, ltb, List, [], ◌∷◌, length, Some, None, Option, sym, refl, ap, subst, inl, inr, arith}
+use Rattle.std.proofs.Common.{◌≡◌, ℕ, suc, ◌<◌, ◌≤◌, cond, eqb, ltb, List, [], ◌∷◌, length, is_some, option_map, Some, None, Option, sym, refl, ap, subst, inl, inr, arith}
 use Rattle.std.proofs.lemmas.Bool.Decides.{nat_tests}
 use Rattle.std.proofs.lemmas.Bool.{cases_Bool, cases_order, lt-ltb, le-ltb, eq-eqb, ne_eqb}
-use Rattle.store.specs.Maps.{Rising, found, beyond, put, first}
+use Rattle.store.specs.Maps.{Rising, found, beyond, put, each, first}
 
 -- a value joined to another, if there is one
 abbrev pub more : {V : Type 0} → (V → V → V) → Option V → V → V
 more join None v = v
 more join (Some w) v = join w v
 
+pub is_some_mapped : {A B : Type 0} (f : A → B) (o : Option A) → is_some (option_map f o) ≡ is_some o
+is_some_mapped f None = refl
+is_some_mapped f (Some x) = refl
+
 module _ {K V : Type 0} (rank : K → ℕ) where
+  pub each_rising : (f : V → V) (n : ℕ) (m : List (K × V)) → Rising rank n m → Rising rank n (each f m)
+  each_rising f n [] r = tt
+  each_rising f n (e ∷ m) r = (r.0, each_rising f (suc (rank e.0)) m r.1)
+
   pub rising_low : (n p : ℕ) (m : List (K × V)) → p ≤ n → Rising rank n m → Rising rank p m
   rising_low n p [] le r = tt
   rising_low n p (e ∷ m) le r = (omega arith, r.1)

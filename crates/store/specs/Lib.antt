@@ -5,4 +5,5 @@ pub mod Laws
 pub mod Maps
 pub mod Meaning
 pub mod Numbers
+pub mod Ordering
 pub mod Sightings

@@ -1,5 +1,7 @@
 ghost use Rattle.ratchet.specs.Ids.{id_number};
 ghost use Rattle.store.specs.Keys.{spot_number};
+ghost use Rattle.ratchet.proofs.Ordering.{id_order_lem};
+ghost use Rattle.store.specs.Ordering.{spot_order};
 
 use crate::meaning::Key;
 use crate::spot::Spot;
@@ -7,32 +9,22 @@ use ratchet::ids::Id;
 
 // Ids are ordered as unsigned numbers.
 impl Key for Id {
+    const MOST: usize = 4096;
+
+    ghost MOST = { 4096 };
+
     ghost rank = { id_number };
 
-    fn below(self, other: Id) -> bool {
-        // `&` and `|` have no branch, so the proof has one way.
-        let low = (self.w2 < other.w2) | (self.w2 == other.w2) & (self.w3 < other.w3);
-        let middle = (self.w1 < other.w1) | (self.w1 == other.w1) & low;
-        (self.w0 < other.w0) | (self.w0 == other.w0) & middle
-    }
-
-    fn same(self, other: Id) -> bool {
-        (self.w0 == other.w0)
-            & (self.w1 == other.w1)
-            & (self.w2 == other.w2)
-            & (self.w3 == other.w3)
-    }
+    ghost ordered = { id_order_lem };
 }
 
 // Spots are ordered by their session, and then by the index.
 impl Key for Spot {
+    const MOST: usize = 65_536;
+
+    ghost MOST = { 65536 };
+
     ghost rank = { spot_number };
 
-    fn below(self, other: Spot) -> bool {
-        self.id.below(other.id) | self.id.same(other.id) & (self.index < other.index)
-    }
-
-    fn same(self, other: Spot) -> bool {
-        self.id.same(other.id) & (self.index == other.index)
-    }
+    ghost ordered = { spot_order };
 }

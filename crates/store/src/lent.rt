@@ -14,6 +14,8 @@ impl<K: Key, V: Value, T: Store<K, V>> Store<K, V> for &mut T {
 
     ghost unaltered = { λ s t. T.Store.unaltered s.now t.now };
 
+    ghost ascends = { λ s. T.Store.ascends s.now };
+
     fn take(&mut self, key: K, value: V) -> Result<(), StoreRefusal> {
         (**self).take(key, value)
     }

@@ -1,4 +1,5 @@
-ghost use Rattle.std.specs.Prelude.{◌≡◌, ℕ, Err, ◌==◌, nat_lt};
+ghost use Rattle.std.specs.Prelude.{◌≡◌, ℕ, Err};
+ghost use Rattle.std.specs.Ordering.{nat_cmp};
 ghost use Rattle.store.specs.declared.refusal.StoreRefusal.TheVariants.{NoPlace};
 ghost use Rattle.store.specs.Laws.{ValueLaws};
 ghost use Rattle.store.specs.Lasting.{Steady};
@@ -7,14 +8,15 @@ ghost use Rattle.store.specs.Meaning.{Meaning, Ascends, looked, nexted, room, an
 use crate::refusal::StoreRefusal;
 
 // A key, ordered by its rank, a number.
-pub trait Key: Copy {
+pub trait Key: Copy + Ord {
+    // How many of these keys a table can hold.
+    const MOST: usize;
+
+    ghost MOST: { ℕ };
+
     ghost rank: { Self → ℕ };
 
-    fn below(self, other: Self) -> bool
-        ensures { result ≡ nat_lt (rank self) (rank other) };
-
-    fn same(self, other: Self) -> bool
-        ensures { result ≡ (rank self == rank other) };
+    ghost ordered: { (a b : Self) → Self.cmp a b ≡ nat_cmp (rank a) (rank b) };
 }
 
 // A value that can be joined with another, and raised to a floor.
@@ -56,13 +58,14 @@ pub trait Store<K: Key, V: Value> {
 
     // The entry of the lowest key above `last`, which need not be held, or of the lowest key.
     fn next(&self, last: &Option<K>) -> Option<(K, V)>
-        ensures value { result ≡ nexted K.rank (means self.now) last.now }
-        ensures ascends { Ascends K.rank (means self.now) };
+        ensures { result ≡ nexted K.rank (means self.now) last.now };
 
     fn floor(&self) -> u32
         ensures { result ≡ (means self.now).floor };
 
     fn free(&self) -> usize
-        ensures value { result ≡ (means self.now).places }
-        ensures ascends { Ascends K.rank (means self.now) };
+        ensures { result ≡ (means self.now).places };
+
+    // The entries stand in the order of their keys.
+    ghost ascends: { (s : Self) → Ascends K.rank (means s) };
 }

@@ -34,13 +34,7 @@ impl Value for Sighting {
 
     fn joined(self, other: Sighting) -> Sighting {
         match (self, other) {
-            (Sighting::Event(a), Sighting::Event(b)) => {
-                if a == b {
-                    Sighting::Event(a)
-                } else {
-                    Sighting::Repeated
-                }
-            }
+            (Sighting::Event(a), Sighting::Event(b)) if a == b => self,
             _ => Sighting::Repeated,
         }
     }

@@ -1,147 +1,81 @@
--- What slots mean: the entries that they hold, which of them is the lowest above a key, and how many are free.
-use Rattle.std.proofs.Common.{◌≡◌, ℕ, zero, suc, ◌-◌, ◌≤◌, min, true, cond, eqb, ltb, List, [], ◌∷◌, take, replicate, is_some, Some, None, Option, sym, refl, ap, ◌∙◌, inl, inr, arith}
+-- What the entries in slots come to in order: what is found of them, and which is the lowest above a key.
+use Rattle.std.proofs.Common.{◌≡◌, ℕ, zero, suc, ◌-◌, min, take, replicate, is_none, count_by, ◌≤◌, ◌==◌, true, Bool, cond, eqb, nat_lt, List, [], ◌∷◌, find, filter, fold, Some, None, Option, option_map, sym, refl, ap, ◌∙◌, inl, inr, arith}
+use Rattle.std.specs.List.{reduce}
+use Rattle.std.specs.Option.{option_map_or}
 use Rattle.std.proofs.lemmas.List.{take-replicate}
+use Rattle.std.proofs.lemmas.List.Sums.{sum_by-cons}
 use Rattle.std.proofs.lemmas.Bool.Decides.{nat_tests}
 use Rattle.std.proofs.lemmas.Bool.{cases_Bool}
-use Rattle.tables.specs.declared.slots.Slot.{Slot}
-use Rattle.tables.specs.declared.slots.Slot.TheVariants.{Free, Held}
 use Rattle.store.specs.Maps.{Rising, found, beyond, put, first}
-use Rattle.store.specs.Meaning.{Meaning}
-use Rattle.tables.specs.Search.{place, above, lower, lowest}
-use Rattle.tables.specs.Slots.{is_free, has_key, slot_value, free_slots, held, slots_mean}
-use Rattle.store.proofs.Lookups.{more, rising_put, found_put}
-use Rattle.tables.proofs.Places.{hit, swapped, place_none}
+use Rattle.store.specs.Meaning.{Meaning, empty}
+use Rattle.tables.specs.Slots.{in_order, slots_mean}
+use Rattle.tables.specs.Sorting.{in_order_rising}
+use Rattle.store.proofs.Lookups.{more, found_put}
 
 module _ {K V : Type 0} (rank : K → ℕ) where
-  pub held_rising : (s : List (Slot K V)) → Rising rank 0 (held rank s)
-  held_rising [] = tt
-  held_rising (Free ∷ s) = held_rising s
-  held_rising (Held k v ∷ s) = rising_put rank (λ _ w. w) 0 (held rank s) k v (omega arith) (held_rising s)
+  last : (o : Option V) (v : V) → more (λ _ w. w) o v ≡ v
+  last None v = refl
+  last (Some x) v = refl
 
-  -- the value of the first slot with the key
-  seen : K → List (Slot K V) → Option V
-  seen k [] = None
-  seen k (Free ∷ s) = seen k s
-  seen k (Held q v ∷ s) = cond (eqb (rank q) (rank k)) (Some v) (seen k s)
+  pub found_first : (es : List (K × V)) (k : K) → option_map (λ e. e.1) (find (λ e. rank e.0 == rank k) es) ≡ found rank (in_order rank es) k
+  found_first [] k = refl
+  found_first (e ∷ es) k =
+      let ih = found_first es k in
+      let at = found_put rank (λ _ w. w) 0 (in_order rank es) e.0 e.1 k (in_order_rising rank es) in
+      let m = last (found rank (in_order rank es) k) e.1 in
+      elim (cases_Bool (eqb (rank e.0) (rank k))) [ inl y ↦ rw (at, y) (ap Some (sym m)) | inr y ↦ rw (at, y) ih ]
 
-  held_found : (s : List (Slot K V)) (k : K) → found rank (held rank s) k ≡ seen k s
-  unfolding seen
-  held_found [] k = refl
-  held_found (Free ∷ s) k = held_found s k
-  held_found (Held q v ∷ s) k =
-      let ih = held_found s k in
-      let at = found_put rank (λ _ w. w) 0 (held rank s) q v k (held_rising s) in
-      let m = last (found rank (held rank s) k) in
-      grind (arith, nat_tests) where
-        last : (o : Option V) → more (λ _ w. w) o v ≡ v
-        last None = refl
-        last (Some x) = refl
+  pub found_by : {eq : K → K → Bool} → eq ≡ (λ a b. rank a == rank b) → (es : List (K × V)) (k : K) (r : Option V) →
+      r ≡ option_map (λ e. e.1) (find (λ e. eq e.0 k) es) → r ≡ found rank (in_order rank es) k
+  found_by same es k r h = h ∙ ap (λ eq. option_map (λ e. e.1) (find (λ e. eq e.0 k) es)) same ∙ found_first es k
 
-  seen_none : (s : List (Slot K V)) (k : K) → hit (has_key rank k) s ≡ None → seen k s ≡ None
-  unfolding seen
-  seen_none [] k h = refl
-  seen_none (Free ∷ s) k h = seen_none s k h
-  seen_none (Held q v ∷ s) k h =
-      elim (cases_Bool (eqb (rank q) (rank k))) [
-        | inl y ↦ absurd (let g : Some (Held q v) ≡ None = rw y at h in let z : ◌≡◌ {A = ℕ} 0 1 = cc in omega arith)
-        | inr y ↦ rw y (seen_none s k (rw y at h))
-      ]
+  -- the lower of two entries, the first where they have one key
+  abbrev pub lesser : K × V → K × V → K × V
+  lesser d e = cond (nat_lt (rank e.0) (rank d.0)) e d
 
-  seen_hit : (s : List (Slot K V)) (k q : K) (v : V) → hit (has_key rank k) s ≡ Some (Held q v) → seen k s ≡ Some v
-  unfolding seen
-  seen_hit [] k q v h = absurd (let z : ◌≡◌ {A = ℕ} 0 1 = cc in omega arith)
-  seen_hit (Free ∷ s) k q v h = seen_hit s k q v h
-  seen_hit (Held p x ∷ s) k q v h =
-      elim (cases_Bool (eqb (rank p) (rank k))) [
-        | inl y ↦ rw y (let g : Some (Held p x) ≡ Some (Held q v) = rw y at h in cc)
-        | inr y ↦ rw y (seen_hit s k q v (rw y at h))
-      ]
+  abbrev pub lesser_of : K × V → Option (K × V) → K × V
+  lesser_of d None = d
+  lesser_of d (Some e) = lesser d e
 
-  -- a slot that has the key is no free one
-  pub hit_held : (s : List (Slot K V)) (k : K) → hit (has_key rank k) s ≡ Some Free → ⊥
-  hit_held [] k h = let z : ◌≡◌ {A = ℕ} 0 1 = cc in omega arith
-  hit_held (Free ∷ s) k h = hit_held s k h
-  hit_held (Held p x ∷ s) k h =
-      elim (cases_Bool (eqb (rank p) (rank k))) [
-        | inl y ↦ (let g : Some (Held p x) ≡ Some Free = rw y at h in let z : ◌≡◌ {A = ℕ} 0 1 = cc in omega arith)
-        | inr y ↦ hit_held s k (rw y at h)
-      ]
+  abbrev pub above : Option K → K × V → Bool
+  above o e = option_map_or (λ q. nat_lt (rank q) (rank e.0)) o true
 
-  pub held_none : (s : List (Slot K V)) (k : K) → hit (has_key rank k) s ≡ None → found rank (held rank s) k ≡ None
-  held_none s k h = held_found s k ∙ seen_none s k h
-
-  pub found_none : (s : List (Slot K V)) (k : K) → None ≡ place (has_key rank k) s → found rank (held rank s) k ≡ None
-  found_none s k h = held_none s k (place_none (has_key rank k) s h)
-
-  pub found_hit : (s : List (Slot K V)) (k q : K) (v : V) → hit (has_key rank k) s ≡ Some (Held q v) → found rank (held rank s) k ≡ Some v
-  found_hit s k q v h = held_found s k ∙ seen_hit s k q v h
-
-  -- what the slot of a key shows
-  pub hit_shown : (s : List (Slot K V)) (k : K) (x : Slot K V) → hit (has_key rank k) s ≡ Some x → slot_value x ≡ found rank (held rank s) k
-  hit_shown s k Free h = absurd (hit_held s k h)
-  hit_shown s k (Held q w) h = sym (found_hit s k q w h)
-
-  pub free_none : (s : List (Slot K V)) → hit is_free s ≡ None → free_slots s ≡ 0
-  free_none [] h = refl
-  free_none (Free ∷ s) h = absurd (let z : ◌≡◌ {A = ℕ} 0 1 = cc in omega arith)
-  free_none (Held p x ∷ s) h = free_none s h
-
-  pub free_filled : (s : List (Slot K V)) (k : K) (v : V) → is_some (hit is_free s) ≡ true → suc (free_slots (swapped is_free (Held k v) s)) ≡ free_slots s
-  free_filled [] k v h = absurd (let z : ◌≡◌ {A = ℕ} 0 1 = cc in omega arith)
-  free_filled (Free ∷ s) k v h = refl
-  free_filled (Held p x ∷ s) k v h = free_filled s k v h
-
-  pub free_kept : (s : List (Slot K V)) (k : K) (v : V) → free_slots (swapped (has_key rank k) (Held k v) s) ≡ free_slots s
-  free_kept [] k v = refl
-  free_kept (Free ∷ s) k v = ap suc (free_kept s k v)
-  free_kept (Held p x ∷ s) k v =
-      elim (cases_Bool (eqb (rank p) (rank k))) [ inl y ↦ rw y | inr y ↦ rw y (free_kept s k v) ]
-
-  -- the lowest entry above a key
-  picked : K → V → Option (K × V) → Option (K × V)
-  picked k v None = Some (k, v)
-  picked k v (Some e) = cond (ltb (rank e.0) (rank k)) (Some e) (Some (k, v))
-
-  beyond_put : (n : ℕ) (m : List (K × V)) (o : Option K) (k : K) (v : V) → Rising rank n m →
-      first (beyond rank (put rank (λ _ w. w) m k v) o) ≡ cond (above rank o k) (picked k v (first (beyond rank m o))) (first (beyond rank m o))
-  unfolding picked
-  beyond_put n [] None k v f = refl
-  beyond_put n [] (Some q) k v f = grind (arith, nat_tests)
-  beyond_put n (d ∷ m) None k v f = grind (arith, nat_tests)
-  beyond_put n (d ∷ m) (Some q) k v f =
-      let ih = beyond_put (suc (rank d.0)) m (Some q) k v f.1 in
+  beyond_put : (n : ℕ) (m : List (K × V)) (o : Option K) (e : K × V) → Rising rank n m →
+      first (beyond rank (put rank (λ _ w. w) m e.0 e.1) o) ≡ cond (above o e) (Some (lesser_of e (first (beyond rank m o)))) (first (beyond rank m o))
+  beyond_put n [] None e f = refl
+  beyond_put n [] (Some q) e f = grind (arith, nat_tests)
+  beyond_put n (d ∷ m) None e f = grind (arith, nat_tests)
+  beyond_put n (d ∷ m) (Some q) e f =
+      let ih = beyond_put (suc (rank d.0)) m (Some q) e f.1 in
       grind (arith, nat_tests)
 
-  lower_of : Option (K × V) → Option (K × V) → Option (K × V)
-  lower_of b None = b
-  lower_of b (Some e) = lower rank b e.0 e.1
+  lesser_twice : (b d : K × V) (o : Option (K × V)) → lesser_of (lesser b d) o ≡ lesser b (lesser_of d o)
+  lesser_twice b d None = refl
+  lesser_twice b d (Some e) = grind (arith, nat_tests)
 
-  lower_picked : (b : Option (K × V)) (k : K) (v : V) (o : Option (K × V)) → lower_of (lower rank b k v) o ≡ lower_of b (picked k v o)
-  unfolding lower_of picked
-  lower_picked None k v None = refl
-  lower_picked None k v (Some e) = grind (arith, nat_tests)
-  lower_picked (Some p) k v None = refl
-  lower_picked (Some p) k v (Some e) = grind (arith, nat_tests)
-
-  lower_first : (o : Option (K × V)) → lower_of None o ≡ o
-  unfolding lower_of
-  lower_first None = refl
-  lower_first (Some e) = refl
-
-  lowest_of : (o : Option K) (b : Option (K × V)) (s : List (Slot K V)) → lowest rank o b s ≡ lower_of b (first (beyond rank (held rank s) o))
-  unfolding lower_of
-  lowest_of None b [] = refl
-  lowest_of (Some q) b [] = refl
-  lowest_of o b (Free ∷ s) = lowest_of o b s
-  lowest_of o b (Held k v ∷ s) =
-      let at = beyond_put 0 (held rank s) o k v (held_rising s) in
-      elim (cases_Bool (above rank o k)) [
-        | inl y ↦ rw (at, y) (lowest_of o (lower rank b k v) s ∙ lower_picked b k v (first (beyond rank (held rank s) o)))
-        | inr y ↦ rw (at, y) (lowest_of o b s)
+  lowest_from : (o : Option K) (b : K × V) (es : List (K × V)) → fold lesser b (filter (above o) es) ≡ lesser_of b (first (beyond rank (in_order rank es) o))
+  lowest_from None b [] = refl
+  lowest_from (Some q) b [] = refl
+  lowest_from o b (e ∷ es) =
+      let at = beyond_put 0 (in_order rank es) o e (in_order_rising rank es) in
+      elim (cases_Bool (above o e)) [
+        | inl y ↦ rw (at, y) (lowest_from o (lesser b e) es ∙ lesser_twice b e (first (beyond rank (in_order rank es) o)))
+        | inr y ↦ rw (at, y) (lowest_from o b es)
       ]
 
-  pub lowest_is : (o : Option K) (s : List (Slot K V)) → lowest rank o None s ≡ first (beyond rank (held rank s) o)
-  lowest_is o s = lowest_of o None s ∙ lower_first (first (beyond rank (held rank s) o))
+  pub lowest_first : (o : Option K) (es : List (K × V)) → reduce lesser (filter (above o) es) ≡ first (beyond rank (in_order rank es) o)
+  lowest_first None [] = refl
+  lowest_first (Some q) [] = refl
+  lowest_first o (e ∷ es) =
+      let at = beyond_put 0 (in_order rank es) o e (in_order_rising rank es) in
+      elim (cases_Bool (above o e)) [
+        | inl y ↦ rw (at, y) (ap Some (lowest_from o e es))
+        | inr y ↦ rw (at, y) (lowest_first o es)
+      ]
+
+  pub lowest_by : {lt : K → K → Bool} → lt ≡ (λ a b. nat_lt (rank a) (rank b)) → (o : Option K) (es : List (K × V)) (r : Option (K × V)) →
+      r ≡ reduce (λ a b. cond (lt b.0 a.0) b a) (filter (λ e. option_map_or (λ q. lt q e.0) o true) es) → r ≡ first (beyond rank (in_order rank es) o)
+  lowest_by below o es r h = h ∙ ap (λ lt. reduce (λ a b. cond (lt b.0 a.0) b a) (filter (λ e. option_map_or (λ q. lt q e.0) o true) es)) below ∙ lowest_first o es
 
 -- slots with these entries and so many free ones
 abbrev pub of : {K V : Type 0} → List (K × V) → ℕ → Meaning K V
@@ -151,17 +85,21 @@ pub of_both : {K V : Type 0} (a b : List (K × V)) (m n : ℕ) → a ≡ b → m
 of_both a b m n p q = ap (λ x. of x m) p ∙ ap (λ x. of b x) q
 
 module _ {K V : Type 0} (rank : K → ℕ) where
-  all_free : (n : ℕ) → slots_mean {V = V} rank (replicate n Free) ≡ of [] n
+  all_free : (n : ℕ) → slots_mean {V = V} rank (replicate n None) ≡ empty n
   all_free zero = refl
-  all_free (suc n) = let ih = all_free n in of_both _ _ _ _ (ap (λ m. m.entries) ih) (ap (λ m. suc m.places) ih)
+  all_free (suc n) =
+      let ih = all_free n in
+      let c = sum_by-cons {X = Option (K × V)} (λ x. cond (is_none x) 1 0) None (replicate n None) in
+      let h : count_by is_none (replicate {A = Option (K × V)} n None) ≡ n = ap (λ m. m.places) ih in
+      of_both _ _ _ _ (ap (λ m. m.entries) ih) (c ∙ omega arith)
 
-  module _ (n limit : ℕ) (s : List (Slot K V)) (cleared : s ≡ replicate n Free) where
+  module _ (n limit : ℕ) (s : List (Option (K × V))) (cleared : s ≡ replicate n None) where
     -- all of some cleared slots, and as many as the limit of more
-    pub all_cleared : n ≤ limit → slots_mean rank s ≡ of [] (min n limit)
-    all_cleared le = ap (slots_mean rank) cleared ∙ all_free n ∙ ap (of []) (omega arith)
+    pub all_cleared : n ≤ limit → slots_mean rank s ≡ empty (min n limit)
+    all_cleared le = ap (slots_mean rank) cleared ∙ all_free n ∙ ap empty (omega arith)
 
-    pub front_cleared : limit ≤ n → slots_mean rank (take (limit - 0) s) ≡ of [] (min n limit)
+    pub front_cleared : limit ≤ n → slots_mean rank (take (limit - 0) s) ≡ empty (min n limit)
     front_cleared le =
         let p : limit - 0 ≡ limit = omega arith in
-        ap (λ t. slots_mean rank (take (limit - 0) t)) cleared ∙ ap (λ k. slots_mean rank (take k (replicate n Free))) p
-        ∙ ap (slots_mean rank) (take-replicate limit n Free le) ∙ all_free limit ∙ ap (of []) (omega arith)
+        ap (λ t. slots_mean rank (take (limit - 0) t)) cleared ∙ ap (λ k. slots_mean rank (take k (replicate n None))) p
+        ∙ ap (slots_mean rank) (take-replicate limit n None le) ∙ all_free limit ∙ ap empty (omega arith)

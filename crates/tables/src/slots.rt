@@ -1,109 +1,50 @@
-ghost use Rattle.std.specs.Prelude.{◌≡◌, length, replicate, if◌then◌else◌, None, Err};
+ghost use Rattle.std.specs.Prelude.{◌≡◌, length, replicate, cond, true, false, None, Err, position, is_none, count_by, find, filter, flat_map, option_to_list};
+ghost use Rattle.std.specs.List.{reduce};
+ghost use Rattle.std.specs.Option.{option_map_or};
+ghost use Rattle.std.specs.Ordering.{partial_lt};
 ghost use Rattle.store.specs.declared.refusal.StoreRefusal.TheVariants.{NoPlace};
-ghost use Rattle.tables.specs.declared.slots.Slot.TheVariants.{Free};
-ghost use Rattle.store.specs.Meaning.{looked, room, answer, taken};
-ghost use Rattle.tables.specs.Search.{place, above, lower, lowest};
-ghost use Rattle.tables.specs.Slots.{is_free, has_key, slot_value, slot_joined, free_slots, slots_mean};
+ghost use Rattle.store.specs.Meaning.{room, answer, taken};
+ghost use Rattle.tables.specs.Slots.{slots_mean};
 
 use store::meaning::{Key, Value};
 use store::refusal::StoreRefusal;
 
-// One place of a keyed table.
-#[derive(Clone, Copy)]
-pub enum Slot<K, V> {
-    Free,
-    Held(K, V),
-}
+// One place of a keyed table: free, or an entry.
+pub type Slot<K, V> = Option<(K, V)>;
 
 fn key_place<K: Key, V: Copy>(slots: &[Slot<K, V>], key: K) -> Option<usize>
-    ensures { result ≡ place (has_key K.rank key) slots.now }
+    ensures { result ≡ position (λ s. option_map_or (λ e. K.eq e.0 key) s false) slots.now }
 {
-    for (i, slot) in slots.iter().enumerate() {
-        if let Slot::Held(k, _) = slot {
-            if k.same(key) {
-                return Some(i);
-            }
-        }
-    }
-    None
+    slots.iter().position(|s| s.is_some_and(|e| e.0 == key))
 }
 
 fn free_place<K: Copy, V: Copy>(slots: &[Slot<K, V>]) -> Option<usize>
-    ensures { result ≡ place is_free slots.now }
+    ensures { result ≡ position is_none slots.now }
 {
-    for (i, slot) in slots.iter().enumerate() {
-        if let Slot::Free = slot {
-            return Some(i);
-        }
-    }
-    None
+    slots.iter().position(|s| s.is_none())
 }
 
 pub(crate) fn count_free<K: Copy, V: Copy>(slots: &[Slot<K, V>]) -> usize
-    ensures { result ≡ free_slots slots.now }
+    ensures { result ≡ count_by is_none slots.now }
 {
-    let mut n = 0;
-    for slot in slots {
-        if let Slot::Free = slot {
-            n += 1;
-        }
-    }
-    n
+    slots.iter().filter(|s| s.is_none()).count()
 }
 
-fn value_of<K: Copy, V: Copy>(slot: Slot<K, V>) -> Option<V>
-    ensures { result ≡ slot_value slot }
+pub(crate) fn entry_of<K: Key, V: Copy>(slots: &[Slot<K, V>], key: K) -> Option<(K, V)>
+    ensures { result ≡ find (λ e. K.eq e.0 key) (flat_map option_to_list slots.now) }
 {
-    match slot {
-        Slot::Held(_, v) => Some(v),
-        Slot::Free => None,
-    }
-}
-
-pub(crate) fn look_in<K: Key, V: Copy>(slots: &[Slot<K, V>], key: K) -> Option<V>
-    ensures { result ≡ looked K.rank (slots_mean K.rank slots.now) key }
-{
-    match key_place(slots, key) {
-        Some(i) => value_of(slots[i]),
-        None => None,
-    }
-}
-
-// The lower of two entries, if the second stands above the last key at all.
-fn lower_of<K: Key, V: Copy>(last: Option<K>, best: Option<(K, V)>, k: K, v: V) -> Option<(K, V)>
-    ensures { result ≡ (if above K.rank last k then lower K.rank best k v else best) }
-{
-    if let Some(b) = last {
-        if !b.below(k) {
-            return best;
-        }
-    }
-    match best {
-        None => Some((k, v)),
-        Some(e) => { if k.below(e.0) { Some((k, v)) } else { Some(e) } }
-    }
+    slots.iter().copied().flatten().find(|e| e.0 == key)
 }
 
 pub(crate) fn lowest_above<K: Key, V: Copy>(slots: &[Slot<K, V>], last: Option<K>) -> Option<(K, V)>
-    ensures { result ≡ lowest K.rank last None slots.now }
+    ensures { result ≡ reduce (λ a b. cond (partial_lt K.partial_cmp b.0 a.0) b a) (filter (λ e. option_map_or (λ q. partial_lt K.partial_cmp q e.0) last true) (flat_map option_to_list slots.now)) }
 {
-    let mut best = None;
-    for slot in slots {
-        if let Slot::Held(k, v) = slot {
-            best = lower_of(last, best, *k, *v);
-        }
-    }
-    best
-}
-
-// A slot with the value joined to what it held.
-fn joined_slot<K: Key, V: Value>(slot: Slot<K, V>, key: K, value: V) -> Slot<K, V>
-    ensures { result ≡ slot_joined V.join slot key value }
-{
-    match slot {
-        Slot::Held(_, held) => Slot::Held(key, held.joined(value)),
-        Slot::Free => Slot::Held(key, value),
-    }
+    slots
+        .iter()
+        .copied()
+        .flatten()
+        .filter(|e| last.is_none_or(|q| q < e.0))
+        .reduce(|a, b| if b.0 < a.0 { b } else { a })
 }
 
 pub(crate) fn take_in<K: Key, V: Value>(
@@ -115,23 +56,9 @@ pub(crate) fn take_in<K: Key, V: Value>(
     ensures after { slots_mean K.rank slots.new ≡ taken K.rank V.join V.raise (slots_mean K.rank slots.old) key value }
     ensures refused { result ≡ Err NoPlace → slots.new ≡ slots.old }
 {
-    if let Some(i) = key_place(slots, key) {
-        slots[i] = joined_slot(slots[i], key, value);
-        return Ok(());
-    }
-    match free_place(slots) {
-        Some(i) => {
-            slots[i] = Slot::Held(key, value);
-            Ok(())
-        }
-        None => Err(StoreRefusal::NoPlace),
-    }
-}
-
-pub(crate) fn clear<K: Copy, V: Copy>(slots: &mut [Slot<K, V>])
-    ensures { slots.new ≡ replicate (length slots.old) Free }
-{
-    for slot in slots.iter_mut() {
-        *slot = Slot::Free;
-    }
+    let i = key_place(slots, key)
+        .or_else(|| free_place(slots))
+        .ok_or(StoreRefusal::NoPlace)?;
+    slots[i] = Some((key, slots[i].map_or(value, |e| e.1.joined(value))));
+    Ok(())
 }

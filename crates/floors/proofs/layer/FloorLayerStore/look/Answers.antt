@@ -1,9 +1,11 @@
-use Rattle.std.proofs.Common.{sym, ap, ◌∙◌}
-use Rattle.std.specs.Option.{option_map}
+use Rattle.std.proofs.Common.{◌≡◌, option_map, sym, ◌∙◌, rules}
+use Rattle.store.specs.Meaning.{looked}
 use Rattle.floors.proofs.Raising.{each_found}
 use Rattle.floors.proofs.layer.FloorLayerStore.look.Goals as goal
 
 pub returns : goal.returns
 returns g c =
     let up = g.V.Value.raise c.args.self.now.floor in
-    c.raised_value.ensures ∙ ap (option_map up) c.look.ensures ∙ sym (each_found g.K.Key.rank up (g.T.Store.means c.args.self.now.below).entries c.args.key)
+    let m = g.T.Store.means c.args.self.now.below in
+    let is : c.map.result ≡ option_map up (looked g.K.Key.rank m c.args.key) = search rules in
+    is ∙ sym (each_found g.K.Key.rank up m.entries c.args.key)

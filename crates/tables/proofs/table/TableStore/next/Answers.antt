@@ -1,9 +1,9 @@
-use Rattle.std.proofs.Common.{◌∙◌}
-use Rattle.tables.proofs.Rows.{lowest_is, held_rising}
+use Rattle.std.proofs.Common.{flat_map, option_to_list}
+use Rattle.store.proofs.Orders.{lt_ranks}
+use Rattle.tables.proofs.Rows.{lowest_by}
 use Rattle.tables.proofs.table.TableStore.next.Goals as goal
 
 pub returns : goal.returns
-returns g c = record {
-  value = c.lowest_above.ensures ∙ lowest_is g.K.Key.rank c.args.last.now c.args.self.now.slots.now;
-  ascends = held_rising g.K.Key.rank c.args.self.now.slots.now;
-}
+returns g c =
+    let below = lt_ranks g.K.Key.rank g.met.K.Key.ordered g.met.K.Ord.matches_partial_cmp in
+    lowest_by g.K.Key.rank below c.args.last.now (flat_map option_to_list c.args.self.now.slots.now) c.lowest_above.result c.lowest_above.ensures
