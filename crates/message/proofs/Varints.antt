@@ -1,8 +1,9 @@
 -- Reading a varint byte by byte, and that reading and writing undo each other.
-use Rattle.std.proofs.Common.{◌≡◌, ℕ, zero, suc, ◌+◌, ◌-◌, ◌*◌, ◌/◌, ◌%◌, ◌^◌, ◌<◌, ◌≤◌, false, cond, ◌&&◌, eqb, ltb, ◌⊎◌, List, [], ◌∷◌, ◌++◌, length, get_or, take, drop, Some, None, Option, sym, refl, ap, ◌∙◌, inl, inr, ⊎_elim, mul_assoc, mul-le-mul, mul-add, add-one, arith, pow-add}
+use Rattle.std.proofs.Common.{◌≡◌, ℕ, zero, suc, ◌+◌, ◌-◌, ◌*◌, ◌/◌, ◌%◌, ◌^◌, ◌<◌, ◌≤◌, false, cond, ◌&&◌, eqb, ltb, ◌⊎◌, List, [], ◌∷◌, ◌++◌, length, get_or, take, drop, Some, None, Option, IfSome, sym, refl, ap, ◌∙◌, inl, inr, ⊎_elim, mul_assoc, mul-le-mul, mul-add, add-one, arith, pow-add}
 use native.Mathlib.Nat.{pow-le-pow_right}
 use Rattle.std.proofs.lemmas.List.{at_drop_more}
 use Rattle.std.proofs.lemmas.Bool.{lt-ltb, le-ltb, eq-eqb, ne_eqb, cases_lt, cases_eq, and_from, and_left, and_right, cond-true, cond-false}
+use Rattle.std.proofs.lemmas.Bool.Decides.{nat_tests}
 use Rattle.std.specs.List.{AllByRecursion}
 use Rattle.ratchet.specs.Bytes.{Byte}
 use Rattle.message.specs.Varint.{groups, beneath, read_groups, within, read_varint, VarintLaws}
@@ -71,17 +72,11 @@ past n v u (Some (w, k)) p h =
     ]
 
 -- the unit after k bytes
-pub unit_small : (k u : ℕ) → u ≡ 128 ^ k → k < 5 → u ≤ 268435456
-unit_small k u e h = omega (arith, e, pow-le-pow_right {n = 128} (omega arith) {i = k} {j = 4} (omega arith))
-
 pub unit_large : (k u : ℕ) → u ≡ 128 ^ k → 5 ≤ k → 34359738368 ≤ u
 unit_large k u e h = omega (arith, e, pow-le-pow_right {n = 128} (omega arith) {i = 5} {j = k} h)
 
 pub unit_more : (k u : ℕ) → u ≡ 128 ^ k → u * 128 ≡ 128 ^ (k + 1)
 unit_more k u e = ap (λ (x : ℕ). x * 128) e ∙ sym (pow-add 128 k 1)
-
-pub product : (u b : ℕ) → u ≤ 268435456 → b < 128 → u * b ≤ 34091302912
-product u b h k = omega (arith, mul-le-mul {n₁ = u} {m₁ = b} {n₂ = 268435456} {m₂ = 127} h (omega arith))
 
 -- the two ways of writing a group
 pub groups_last : (n v : ℕ) → v < 128 → groups n v ≡ v ∷ []
@@ -161,32 +156,29 @@ within_some (Some (w, j)) v k e =
       | inr h ↦ (let f = sym (cond-false (ltb w (2 ^ 32)) (Some (w, j)) None (le-ltb w (2 ^ 32) h)) ∙ e in let z : ◌≡◌ {A = ℕ} 0 1 = cc in absurd (omega arith))
     ]
 
--- the bytes read are there
-read_fits : (bs : List ℕ) (v k : ℕ) → read_groups bs ≡ Some (v, k) → k ≤ length bs
+-- what a varint takes: at least one byte, two from 128 on, and fewer than n
+abbrev pub Takes : ℕ → ℕ × ℕ → Type 0
+Takes n p = (1 ≤ p.1) × (p.1 < n) × (128 ≤ p.0 → 2 ≤ p.1)
+
+beneath_takes : (low n k : ℕ) (o : Option (ℕ × ℕ)) → k ≡ n + 1 → IfSome o (Takes n) → IfSome (beneath low o) (Takes k)
+beneath_takes low n k None e h = tt
+beneath_takes low n k (Some p) e h = grind (arith, nat_tests)
+
+within_takes : (n : ℕ) (o : Option (ℕ × ℕ)) → IfSome o (Takes n) → IfSome (within o) (Takes n)
+within_takes n None h = tt
+within_takes n (Some p) h = grind (arith, nat_tests)
+
+read_takes : (bs : List ℕ) → IfSome (read_groups bs) (Takes (length bs + 1))
 unfolding read_groups
-read_fits [] v k e = let z : ◌≡◌ {A = ℕ} 0 1 = cc in absurd (omega arith)
-read_fits (b ∷ bs) v k e =
+read_takes [] = tt
+read_takes (b ∷ bs) =
     elim (cases_lt b 128) [
-      | inl low ↦ omega (arith, (same_pair b 1 v k (sym (last_is b bs low) ∙ e)).1)
-      | inr high ↦ (let (w, j, is, ne, ev, ek) = above (b - 128) v k (read_groups bs) (sym (read_more b bs high) ∙ e) in omega (arith, read_fits bs w j is, ek))
+      | inl low ↦ rw (lt-ltb b 128 low) (omega arith, omega arith, λ h. absurd (omega arith))
+      | inr high ↦ rw (le-ltb b 128 high) (beneath_takes (b - 128) (length bs + 1) _ (read_groups bs) (omega arith) (read_takes bs))
     ]
 
--- a number has at least one byte, and two from 128 on
-read_least : (bs : List ℕ) (v k : ℕ) → read_groups bs ≡ Some (v, k) → (1 ≤ k) × (128 ≤ v → 2 ≤ k)
-unfolding read_groups
-read_least [] v k e = let z : ◌≡◌ {A = ℕ} 0 1 = cc in absurd (omega arith)
-read_least (b ∷ bs) v k e =
-    elim (cases_lt b 128) [
-      | inl low ↦ (let g = same_pair b 1 v k (sym (last_is b bs low) ∙ e) in (omega (arith, g.1), λ h. omega (arith, g.0)))
-      | inr high ↦ (let (w, j, is, ne, ev, ek) = above (b - 128) v k (read_groups bs) (sym (read_more b bs high) ∙ e) in
-          let l = (read_least bs w j is).0 in (omega (arith, ek), λ h. omega (arith, ek)))
-    ]
-
-pub varint_least : (bs : List ℕ) (v k : ℕ) → read_varint bs ≡ Some (v, k) → (1 ≤ k) × (128 ≤ v → 2 ≤ k)
-varint_least bs v k e = read_least bs v k (within_some (read_groups bs) v k e).0
-
-pub varint_fits : (bs : List ℕ) (v k : ℕ) → read_varint bs ≡ Some (v, k) → k ≤ length bs
-varint_fits bs v k e = read_fits bs v k (within_some (read_groups bs) v k e).0
+pub takes : (bs : List ℕ) (n : ℕ) → length bs + 1 ≡ n → IfSome (read_varint bs) (Takes n)
+takes bs n e = rw (← e) (within_takes (length bs + 1) (read_groups bs) (read_takes bs))
 
 pub varint_laws_lem : VarintLaws
 varint_laws_lem = record {

@@ -2,34 +2,8 @@ use Rattle.std.proofs.Common.{ℕ, ◌+◌, ◌*◌, ◌≤◌, get_or, drop, sy
 use Rattle.std.proofs.lemmas.List.{at_drop_more, at_drop_all}
 use Rattle.std.proofs.lemmas.Bool.{lt-ltb, le-ltb, cond-true, cond-false}
 use Rattle.message.specs.Varint.{read_groups, within}
-use Rattle.message.proofs.Varints.{after, unit_small, unit_large, unit_more, product, past, at_end, at_more, at_zero, number_at}
+use Rattle.message.proofs.Varints.{after, unit_large, unit_more, past, at_end, at_more, at_zero, number_at}
 use Rattle.message.proofs.varint.read_varint.Goals as goal
-
--- the product at the last byte
-last-product : (c : goal.After-from) → c.loop-at.unit * c.from.result ≤ 34091302912
-last-product c =
-    product c.loop-at.unit c.from.result (unit_small c.loop-at.at _ c.loop-at.invariant.1 c.if-at-ge5.false) (omega (arith, c.from.ensures, c.if-b-lt128.true))
-
-pub overflow_mul-v : goal.overflow_mul-v
-overflow_mul-v c = omega (arith, last-product c)
-
-pub overflow_add-v : goal.overflow_add-v
-overflow_add-v c = omega (arith, last-product c, unit_small c.loop-at.at _ c.loop-at.invariant.1 c.if-at-ge5.false)
-
--- the product at a byte before the last
-more-product : (c : goal.After-from-in-loop-at) → c.loop-at.unit * c.from-in-loop-at.result ≤ 34091302912
-more-product c =
-    product c.loop-at.unit c.from-in-loop-at.result (unit_small c.loop-at.at _ c.loop-at.invariant.1 c.if-at-ge5.false)
-    (omega (arith, c.from-in-loop-at.ensures, c.type_inv.bytes c.loop-at.at))
-
-pub overflow_mul-value : goal.overflow_mul-value
-overflow_mul-value c = omega (arith, more-product c)
-
-pub overflow_add-value : goal.overflow_add-value
-overflow_add-value c = omega (arith, more-product c, unit_small c.loop-at.at _ c.loop-at.invariant.1 c.if-at-ge5.false)
-
-pub overflow_mul-unit : goal.overflow_mul-unit
-overflow_mul-unit c = omega (arith, unit_small c.loop-at.at _ c.loop-at.invariant.1 c.if-at-ge5.false)
 
 pub loop-at-preserved : goal.loop-at-preserved
 loop-at-preserved c =
