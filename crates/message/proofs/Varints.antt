@@ -1,8 +1,8 @@
 -- Reading a varint byte by byte, and that reading and writing undo each other.
-use Rattle.std.proofs.Common.{◌≡◌, ℕ, zero, suc, ◌+◌, ◌-◌, ◌*◌, ◌/◌, ◌%◌, ◌^◌, ◌<◌, ◌≤◌, false, cond, ◌&&◌, eqb, ltb, ◌⊎◌, List, [], ◌∷◌, ◌++◌, length, get_or, take, drop, Some, None, Option, IfSome, sym, refl, ap, ◌∙◌, inl, inr, ⊎_elim, mul_assoc, mul-le-mul, mul-add, add-one, arith, pow-add}
+use Rattle.std.proofs.Common.{◌≡◌, ℕ, zero, suc, ◌+◌, ◌-◌, ◌*◌, ◌/◌, ◌%◌, ◌^◌, ◌<◌, ◌≤◌, cond, ◌&&◌, eqb, ltb, ◌⊎◌, List, [], ◌∷◌, ◌++◌, length, get_or, take, drop, Some, None, Option, IfSome, sym, refl, ap, ◌∙◌, inl, inr, mul_assoc, mul-le-mul, mul-add, add-one, arith, pow-add}
 use native.Mathlib.Nat.{pow-le-pow_right}
-use Rattle.std.proofs.lemmas.List.{at_drop_more}
-use Rattle.std.proofs.lemmas.Bool.{lt-ltb, le-ltb, eq-eqb, ne_eqb, cases_lt, cases_eq, and_from, and_left, and_right, cond-true, cond-false}
+use Rattle.std.proofs.lemmas.List.{at_drop_more, at_drop_all}
+use Rattle.std.proofs.lemmas.Bool.{lt-ltb, le-ltb, eq-eqb, ne_eqb, cases_lt, cases_eq, cond-true, cond-false}
 use Rattle.std.proofs.lemmas.Bool.Decides.{nat_tests}
 use Rattle.std.specs.List.{AllByRecursion}
 use Rattle.ratchet.specs.Bytes.{Byte}
@@ -13,70 +13,52 @@ abbrev pub after : ℕ → ℕ → ℕ → Option (ℕ × ℕ) → Option (ℕ �
 after n v u None = None
 after n v u (Some (w, k)) = cond (eqb w 0 && ltb 0 n) None (Some (v + u * w, n + k))
 
-pub after_none : (o : Option (ℕ × ℕ)) → after 0 0 1 o ≡ o
+after_none : (o : Option (ℕ × ℕ)) → o ≡ after 0 0 1 o
 after_none None = refl
-after_none (Some (w, k)) = cond-false _ _ _ (and_right (eqb w 0) false refl) ∙ (λ i. let a : 0 + 1 * w ≡ w = omega arith in let b : 0 + k ≡ k = omega arith in Some (a i, b i))
-
--- a number that is not 0, or stands first, counts
-counts : (n v u w k : ℕ) → ((w ≡ 0) × (n ≤ 0)) ⊎ ((w ≡ 0) → ⊥) → after n v u (Some (w, k)) ≡ Some (v + u * w, n + k)
-counts n v u w k h =
-    cond-false _ _ _ (⊎_elim (λ p. and_right (eqb w 0) (ltb 0 n) (le-ltb 0 n p.1)) (λ ne. and_left (eqb w 0) (ltb 0 n) (ne_eqb w 0 ne)) h)
-
-counts_not : (n v u w k : ℕ) → w ≡ 0 → 0 < n → after n v u (Some (w, k)) ≡ None
-counts_not n v u w k e h = cond-true _ _ _ (and_from _ _ (eq-eqb w 0 e) (lt-ltb 0 n h))
+after_none (Some (w, k)) = grind (arith, nat_tests)
 
 after_beneath : (n v u d : ℕ) (o : Option (ℕ × ℕ)) → after n v u (beneath d o) ≡ after (n + 1) (v + u * d) (u * 128) o
 after_beneath n v u d None = refl
-after_beneath n v u d (Some (w, k)) =
-    elim (cases_eq w 0) [
-      | inl e ↦ ap (after n v u) (cond-true (eqb w 0) None (Some (d + 128 * w, k + 1)) (eq-eqb w 0 e)) ∙ sym (counts_not (n + 1) (v + u * d) (u * 128) w k e (omega arith))
-      | inr ne ↦ (let value : v + u * (d + 128 * w) ≡ v + u * d + u * 128 * w = omega (arith, mul-add u d (128 * w), mul_assoc u 128 w) in
-          let size : n + (k + 1) ≡ n + 1 + k = omega arith in
-          ap (after n v u) (cond-false (eqb w 0) None (Some (d + 128 * w, k + 1)) (ne_eqb w 0 ne))
-          ∙ counts n v u (d + 128 * w) (k + 1) (inr (λ z. ne (omega arith))) ∙ (λ i. Some (value i, size i)) ∙ sym (counts (n + 1) (v + u * d) (u * 128) w k (inr ne)))
-    ]
-
--- the ways of one turn
-pub at_more : (n v u b : ℕ) (bs : List ℕ) → 128 ≤ b → after n v u (read_groups (b ∷ bs)) ≡ after (n + 1) (v + u * (b - 128)) (u * 128) (read_groups bs)
-unfolding read_groups
-at_more n v u b bs h = ap (after n v u) (cond-false _ _ _ (le-ltb b 128 h)) ∙ after_beneath n v u (b - 128) (read_groups bs)
+after_beneath n v u d (Some (w, k)) = grind (arith, nat_tests, mul-add u d (128 * w), mul_assoc u 128 w)
 
 last_is : (b : ℕ) (bs : List ℕ) → b < 128 → read_groups (b ∷ bs) ≡ Some (b, 1)
 unfolding read_groups
 last_is b bs h = cond-true _ _ _ (lt-ltb b 128 h)
 
-at_last : (n v u b : ℕ) (bs : List ℕ) → b < 128 → ((b ≡ 0) × (n ≤ 0)) ⊎ ((b ≡ 0) → ⊥) → after n v u (read_groups (b ∷ bs)) ≡ Some (v + u * b, n + 1)
-at_last n v u b bs h w = ap (after n v u) (last_is b bs h) ∙ counts n v u b 1 w
+-- where a loop over bs stands: it has read k bytes, of value v, and the number that follows counts u times
+pub record Reading (bs : List ℕ) (k v u : ℕ) : Type 0 where
+  pub few : k ≤ 5
+  pub unit : u ≡ 128 ^ k
+  pub low : v < u
+  pub whole : read_groups bs ≡ after k v u (read_groups (drop k bs))
 
--- the number at the last byte, by what the code holds: the value v of the k bytes before, their unit u, and the byte x
-pub number_at : (k v u x : ℕ) (xs : List ℕ) → k < length xs → after k v u (read_groups (drop k xs)) ≡ read_groups xs
-    → x ≡ get_or xs k 0 → get_or xs k 0 < 128 → ((get_or xs k 0 ≡ 0) × (k ≤ 0)) ⊎ ((get_or xs k 0 ≡ 0) → ⊥) → read_groups xs ≡ Some (v + u * x, k + 1)
-number_at k v u x xs h inv is low w =
-    sym inv ∙ at_drop_more (λ ys. after k v u (read_groups ys)) xs k 0 h ∙ at_last k v u (get_or xs k 0) (drop (k + 1) xs) low w ∙ ap (λ (y : ℕ). Some (v + u * y, k + 1)) (sym is)
+pub at_start : (bs : List ℕ) → Reading bs 0 0 1
+at_start bs = record { few = omega arith; unit = refl; low = omega arith; whole = after_none (read_groups bs) }
 
-pub at_zero : (n v u b : ℕ) (bs : List ℕ) → b ≡ 0 → 0 < n → after n v u (read_groups (b ∷ bs)) ≡ None
-at_zero n v u b bs e p = ap (after n v u) (last_is b bs (omega arith)) ∙ counts_not n v u b 1 e p
+module _ (bs : List ℕ) (k v u : ℕ) (at : Reading bs k v u) where
+  pub at_more : (x : ℕ) → k < 5 → k < length bs → 128 ≤ get_or bs k 0 → get_or bs k 0 < 256 → x ≡ get_or bs k 0 - 128 → Reading bs (k + 1) (v + u * x) (u * 128)
+  unfolding read_groups
+  at_more x few here high byte is = record {
+    few = omega arith;
+    unit = ap (λ (y : ℕ). y * 128) at.unit ∙ sym (pow-add 128 k 1);
+    low = omega (arith, at.low, mul-le-mul {n₁ = u} {m₁ = x} {n₂ = u} {m₂ = 127} (omega arith) (omega arith));
+    whole = at.whole ∙ at_drop_more (λ ys. after k v u (read_groups ys)) bs k 0 here ∙ rw (le-ltb _ _ high, is) (after_beneath k v u (get_or bs k 0 - 128) (read_groups (drop (k + 1) bs)));
+  }
 
-pub at_end : (n v u : ℕ) → after n v u (read_groups []) ≡ None
-unfolding read_groups
-at_end n v u = refl
+  pub at_last : k < length bs → get_or bs k 0 < 128 → read_groups bs ≡ after k v u (Some (get_or bs k 0, 1))
+  at_last here low = at.whole ∙ at_drop_more (λ ys. after k v u (read_groups ys)) bs k 0 here ∙ ap (after k v u) (last_is _ _ low)
 
--- past five bytes nothing fits
-pub past : (n v u : ℕ) (o : Option (ℕ × ℕ)) → 0 < n → 2 ^ 32 ≤ u → within (after n v u o) ≡ None
-past n v u None p h = refl
-past n v u (Some (w, k)) p h =
-    elim (cases_eq w 0) [
-      | inl e ↦ ap within (counts_not n v u w k e p)
-      | inr ne ↦ (let large = mul-le-mul {n₁ = u} {m₁ = 1} {n₂ = u} {m₂ = w} (omega arith) (omega arith) in
-          ap within (counts n v u w k (inr ne)) ∙ cond-false (ltb (v + u * w) (2 ^ 32)) (Some (v + u * w, n + k)) None (le-ltb _ _ (omega arith)))
-    ]
-
--- the unit after k bytes
-pub unit_large : (k u : ℕ) → u ≡ 128 ^ k → 5 ≤ k → 34359738368 ≤ u
-unit_large k u e h = omega (arith, e, pow-le-pow_right {n = 128} (omega arith) {i = 5} {j = k} h)
-
-pub unit_more : (k u : ℕ) → u ≡ 128 ^ k → u * 128 ≡ 128 ^ (k + 1)
-unit_more k u e = ap (λ (x : ℕ). x * 128) e ∙ sym (pow-add 128 k 1)
+  -- past five bytes nothing fits
+  pub at_end : (5 ≤ k) ⊎ ((k < 5) × (length bs ≤ k)) → None ≡ read_varint bs
+  unfolding read_groups
+  at_end (inl many) = rw at.whole (past (read_groups (drop k bs))) where
+    past : (o : Option (ℕ × ℕ)) → None ≡ within (after k v u o)
+    past None = refl
+    past (Some (w, j)) =
+        let large : 34359738368 ≤ u = omega (arith, at.unit, pow-le-pow_right {n = 128} (omega arith) {i = 5} {j = k} many) in
+        let more : 1 ≤ w → u ≤ u * w = λ h. omega (arith, mul-le-mul {n₁ = u} {m₁ = 1} {n₂ = u} {m₂ = w} (omega arith) h) in
+        grind (arith, nat_tests)
+  at_end (inr p) = sym (ap within (at.whole ∙ at_drop_all (λ ys. after k v u (read_groups ys)) bs k p.1))
 
 -- the two ways of writing a group
 pub groups_last : (n v : ℕ) → v < 128 → groups n v ≡ v ∷ []
