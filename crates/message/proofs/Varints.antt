@@ -4,6 +4,7 @@ use native.Mathlib.Nat.{pow-le-pow_right}
 use Rattle.std.proofs.lemmas.List.{at_drop_more, at_drop_all}
 use Rattle.std.proofs.lemmas.Bool.{lt-ltb, le-ltb, eq-eqb, ne_eqb, cases_lt, cases_eq, cond-true, cond-false}
 use Rattle.std.proofs.lemmas.Bool.Decides.{nat_tests}
+use Rattle.std.proofs.lemmas.Option.{MatchOption-at_some, IfSome_then}
 use Rattle.std.specs.List.{AllByRecursion}
 use Rattle.ratchet.specs.Bytes.{Byte}
 use Rattle.message.specs.Varint.{groups, beneath, read_groups, within, read_varint, VarintLaws}
@@ -83,59 +84,44 @@ read_back zero v rest h = rw (groups_last zero v (omega arith)) (last_is v rest 
 read_back (suc n) v rest h =
     elim (cases_lt v 128) [
       | inl low ↦ rw (groups_last (suc n) v low) (last_is v rest low)
-      | inr high ↦ (let gs = groups n (v / 128) in
-          let e = power n in
-          let r = read_back n (v / 128) rest (omega arith) in
+      | inr high ↦ (let e = power n in
+          let high-group : 128 ≤ v % 128 + 128 = omega arith in
+          let more : 1 ≤ v / 128 = omega arith in
           let value : v % 128 + 128 - 128 + 128 * (v / 128) ≡ v = omega arith in
-          let size : length gs + 1 ≡ suc (length gs) = omega arith in
-          rw (groups_more n v high) (read_more (v % 128 + 128) (gs ++ rest) (omega arith) ∙ ap (beneath (v % 128 + 128 - 128)) r
-          ∙ cond-false (eqb (v / 128) 0) _ _ (ne_eqb (v / 128) 0 (λ z. omega arith)) ∙ (λ i. Some (value i, size i))))
+          rw (groups_more n v high, read_more (v % 128 + 128) (groups n (v / 128) ++ rest) high-group, read_back n (v / 128) rest (omega arith)) (grind (arith, nat_tests)))
     ]
 
-same_pair : (a b v k : ℕ) → ◌≡◌ {A = Option (ℕ × ℕ)} (Some (a, b)) (Some (v, k)) → (a ≡ v) × (b ≡ k)
-same_pair a b v k e = let g : ◌≡◌ {A = ℕ × ℕ} (a, b) (v, k) = cc in (ap (λ p. p.0) g, ap (λ p. p.1) g)
+-- a fact of the number read, in the groups above and within the bound
+within_some : (P : ℕ × ℕ → Type 0) (o : Option (ℕ × ℕ)) → IfSome o P → IfSome (within o) (λ p. P p × (p.0 < 2 ^ 32))
+within_some P None h = tt
+within_some P (Some p) h = elim (cases_lt p.0 (2 ^ 32)) [ inl low ↦ rw (lt-ltb _ _ low) (h, low) | inr high ↦ rw (le-ltb _ _ high) tt ]
 
--- what lies above a byte with its top bit set
-above : (d v k : ℕ) (o : Option (ℕ × ℕ)) → beneath d o ≡ Some (v, k) → (w : ℕ) × (j : ℕ) × (o ≡ Some (w, j)) × (w ≡ 0 → ⊥) × (v ≡ d + 128 * w) × (k ≡ j + 1)
-above d v k None e = let z : ◌≡◌ {A = ℕ} 0 1 = cc in absurd (omega arith)
-above d v k (Some (w, j)) e =
-    elim (cases_eq w 0) [
-      | inl h ↦ (let f = sym (cond-true (eqb w 0) None (Some (d + 128 * w, j + 1)) (eq-eqb w 0 h)) ∙ e in let z : ◌≡◌ {A = ℕ} 0 1 = cc in absurd (omega arith))
-      | inr h ↦ (let f = sym (cond-false (eqb w 0) None (Some (d + 128 * w, j + 1)) (ne_eqb w 0 h)) ∙ e in
-          let g = same_pair (d + 128 * w) (j + 1) v k f in (w, j, refl, h, sym g.0, sym g.1))
-    ]
+-- bytes that begin with the shortest form of a number
+abbrev Shortest : List ℕ → ℕ × ℕ → Type 0
+Shortest bs p = (n : ℕ) → p.0 < 128 ^ (n + 1) → take p.1 bs ≡ groups n p.0
 
 -- a byte with its top bit set before the shortest form of a number that is not 0
-longer : (n b w v j : ℕ) (bs : List ℕ) → 128 ≤ b → b < 256 → (w ≡ 0 → ⊥) → v ≡ b - 128 + 128 * w → v < 128 ^ (n + 1)
-    → ((m : ℕ) → w < 128 ^ (m + 1) → take j bs ≡ groups m w) → take (j + 1) (b ∷ bs) ≡ groups n v
-longer zero b w v j bs high byte ne ev h rest = absurd (omega arith)
-longer (suc n) b w v j bs high byte ne ev h rest =
+longer : (n b w j : ℕ) (bs : List ℕ) → 128 ≤ b → b < 256 → (w ≡ 0 → ⊥) → Shortest bs (w, j) → b - 128 + 128 * w < 128 ^ (n + 1) → take (j + 1) (b ∷ bs) ≡ groups n (b - 128 + 128 * w)
+longer zero b w j bs high byte ne rest h = absurd (omega arith)
+longer (suc n) b w j bs high byte ne rest h =
     let e = power n in
+    let v = b - 128 + 128 * w in
     let top : v / 128 ≡ w = omega arith in
     let low : v % 128 + 128 ≡ b = omega arith in
-    rw add-one (sym (groups_more n v (omega arith) ∙ (λ i. low i ∷ groups n (top i)) ∙ ap (λ xs. b ∷ xs) (sym (rest n (omega arith)))))
+    rw (add-one, groups_more n v (omega arith), top, low, rest n (omega arith))
 
--- what is read is the shortest form
-shortest : (bs : List ℕ) (n v k : ℕ) → AllByRecursion Byte bs → read_groups bs ≡ Some (v, k) → v < 128 ^ (n + 1) → take k bs ≡ groups n v
+beneath_shortest : (b : ℕ) (bs : List ℕ) (o : Option (ℕ × ℕ)) → 128 ≤ b → b < 256 → IfSome o (Shortest bs) → IfSome (beneath (b - 128) o) (Shortest (b ∷ bs))
+beneath_shortest b bs None high byte h = tt
+beneath_shortest b bs (Some (w, j)) high byte h =
+    elim (cases_eq w 0) [ inl e ↦ rw (eq-eqb w 0 e) tt | inr ne ↦ rw (ne_eqb w 0 ne) (λ n. longer n b w j bs high byte ne h) ]
+
+shortest : (bs : List ℕ) → AllByRecursion Byte bs → IfSome (read_groups bs) (Shortest bs)
 unfolding read_groups
-shortest [] n v k a e h = let z : ◌≡◌ {A = ℕ} 0 1 = cc in absurd (omega arith)
-shortest (b ∷ bs) n v k a e h =
+shortest [] a = tt
+shortest (b ∷ bs) a =
     elim (cases_lt b 128) [
-      | inl low ↦ (let f = sym (last_is b bs low) ∙ e in
-          let g = same_pair b 1 v k f in
-          let ev = g.0 in
-          ap (λ (j : ℕ). take j (b ∷ bs)) (sym g.1) ∙ ap (λ (x : ℕ). x ∷ []) ev ∙ sym (groups_last n v (omega arith)))
-      | inr high ↦ (let (w, j, is, ne, ev, ek) = above (b - 128) v k (read_groups bs) (sym (read_more b bs high) ∙ e) in
-          ap (λ (x : ℕ). take x (b ∷ bs)) ek ∙ longer n b w v j bs high a.0 ne ev h (λ m. shortest bs m w j a.1 is))
-    ]
-
-within_some : (o : Option (ℕ × ℕ)) (v k : ℕ) → within o ≡ Some (v, k) → (o ≡ Some (v, k)) × (v < 2 ^ 32)
-within_some None v k e = let z : ◌≡◌ {A = ℕ} 0 1 = cc in absurd (omega arith)
-within_some (Some (w, j)) v k e =
-    elim (cases_lt w (2 ^ 32)) [
-      | inl h ↦ (let f = sym (cond-true (ltb w (2 ^ 32)) (Some (w, j)) None (lt-ltb w (2 ^ 32) h)) ∙ e in
-          (f, omega (arith, (same_pair w j v k f).0)))
-      | inr h ↦ (let f = sym (cond-false (ltb w (2 ^ 32)) (Some (w, j)) None (le-ltb w (2 ^ 32) h)) ∙ e in let z : ◌≡◌ {A = ℕ} 0 1 = cc in absurd (omega arith))
+      | inl low ↦ rw (lt-ltb b 128 low) (λ n h. sym (groups_last n b low))
+      | inr high ↦ rw (le-ltb b 128 high) (beneath_shortest b bs (read_groups bs) high a.0 (shortest bs a.1))
     ]
 
 -- what a varint takes: at least one byte, two from 128 on, and fewer than n
@@ -145,10 +131,6 @@ Takes n p = (1 ≤ p.1) × (p.1 < n) × (128 ≤ p.0 → 2 ≤ p.1)
 beneath_takes : (low n k : ℕ) (o : Option (ℕ × ℕ)) → k ≡ n + 1 → IfSome o (Takes n) → IfSome (beneath low o) (Takes k)
 beneath_takes low n k None e h = tt
 beneath_takes low n k (Some p) e h = grind (arith, nat_tests)
-
-within_takes : (n : ℕ) (o : Option (ℕ × ℕ)) → IfSome o (Takes n) → IfSome (within o) (Takes n)
-within_takes n None h = tt
-within_takes n (Some p) h = grind (arith, nat_tests)
 
 read_takes : (bs : List ℕ) → IfSome (read_groups bs) (Takes (length bs + 1))
 unfolding read_groups
@@ -160,23 +142,23 @@ read_takes (b ∷ bs) =
     ]
 
 pub takes : (bs : List ℕ) (n : ℕ) → length bs + 1 ≡ n → IfSome (read_varint bs) (Takes n)
-takes bs n e = rw (← e) (within_takes (length bs + 1) (read_groups bs) (read_takes bs))
+takes bs n e =
+    let least = within_some (Takes (length bs + 1)) (read_groups bs) (read_takes bs) in
+    rw (← e) (IfSome_then (read_varint bs) {P = λ p. Takes (length bs + 1) p × (p.0 < 2 ^ 32)} {Q = Takes (length bs + 1)} least (λ p h. h.0))
 
 pub varint_laws_lem : VarintLaws
 varint_laws_lem = record {
   back = λ v rest h. ap within (read_back 4 v rest (omega arith)) ∙ cond-true _ _ _ (lt-ltb v (2 ^ 32) h);
-  forth = λ bs v k a e. let s = within_some (read_groups bs) v k e in (shortest bs 4 v k a s.0 (omega (arith, s.1)), s.1);
+  forth = λ bs v k a e. let h = MatchOption-at_some _ _ (v, k) e (within_some (Shortest bs) (read_groups bs) (shortest bs a)) in (h.0 4 (omega (arith, h.1)), h.1);
 }
 
 -- a number below 128^k has at most k groups
 pub groups_size : (n k v : ℕ) → v < 128 ^ (k + 1) → length (groups n v) ≤ k + 1
 unfolding groups
-groups_size n zero v h = omega (arith, ap length (groups_last n v (omega arith)))
-groups_size zero (suc k) v h = omega (arith, ap length (groups_zero v)) where
-  groups_zero : (v : ℕ) → groups zero v ≡ v ∷ []
-  groups_zero v = refl
+groups_size zero k v h = omega arith
+groups_size (suc n) zero v h = rw (groups_last (suc n) v (omega arith)) (omega arith)
 groups_size (suc n) (suc k) v h =
     elim (cases_lt v 128) [
-      | inl low ↦ omega (arith, ap length (groups_last (suc n) v low))
-      | inr high ↦ (let e = power k in omega (arith, ap length (groups_more n v high), groups_size n k (v / 128) (omega arith)))
+      | inl low ↦ rw (groups_last (suc n) v low) (omega arith)
+      | inr high ↦ (let e = power k in rw (groups_more n v high) (omega (arith, groups_size n k (v / 128) (omega arith))))
     ]
