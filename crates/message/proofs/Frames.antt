@@ -1,10 +1,11 @@
 -- A message is read as it was laid out.
-use Rattle.std.proofs.Common.{◌≡◌, ℕ, ◌+◌, true, List, ◌∷◌, ◌++◌, length, take, drop, Some, Ok, sym, refl, ap, ◌∙◌, arith}
+use Rattle.std.proofs.Common.{◌≡◌, ℕ, ◌+◌, true, List, ◌∷◌, ◌++◌, length, take, drop, Ok, sym, refl, ap, ◌∙◌, arith}
 use Rattle.std.proofs.lemmas.List.{append_assoc, drop_at, length-append, take_at}
-use Rattle.std.proofs.lemmas.Bool.{eq-eqb, cond-true, and_from, le-leb}
+use Rattle.std.proofs.lemmas.Bool.{eq-eqb}
+use Rattle.std.proofs.lemmas.Bool.Decides.{nat_tests}
 use Rattle.ratchet.specs.Suite.{Meaning}
 use Rattle.message.specs.Varint.{varint}
-use Rattle.message.specs.Frame.{head, parted, keyed, starts, sized, indexed, framed, FrameLaw}
+use Rattle.message.specs.Frame.{head, parted, starts, framed, FrameLaw}
 use Rattle.message.proofs.Varints.{groups_size, varint_laws_lem}
 
 -- a message is cut where its parts were joined
@@ -32,9 +33,7 @@ read_back m index cipher tag small allowed short eight =
     let kb = groups_size 4 4 index (omega arith) in
     let lb = groups_size 4 1 n (omega arith) in
     let from : length xs ≡ 2 + k + 1 + l = simp length-append (omega arith) in
-    let starts-so : starts m bs ≡ true = and_from _ _ (and_from _ _ (le-leb 1 (length bs) (omega arith)) (le-leb (length bs) 4130 (omega arith))) (eq-eqb m.message_byte m.message_byte refl) in
     let behind : drop (2 + k) bs ≡ 18 ∷ rest = drop_at (m.message_byte ∷ (8 ∷ varint index)) (18 ∷ rest) (2 + k) (omega arith) in
-    let second : keyed 18 (drop (2 + k) bs) ≡ Some (n, l) = ap (keyed 18) behind ∙ varint_laws_lem.back n (cipher ++ tag) (omega arith) in
-    ap (framed m) flat ∙ cond-true _ _ _ starts-so ∙ ap (indexed m bs) (varint_laws_lem.back index (18 ∷ rest) small)
-    ∙ ap (sized m bs index (2 + k)) second ∙ cond-true _ _ _ (eq-eqb _ _ size) ∙ cond-true _ _ _ allowed
-    ∙ ap (λ ys. Ok (parted ys index (2 + k + 1 + l) n)) (sym flat) ∙ ap Ok (cut xs cipher tag index (2 + k + 1 + l) from)
+    let starts-so : starts m bs ≡ true = grind (arith, nat_tests) in
+    ap (framed m) flat ∙ rw (starts-so, varint_laws_lem.back index (18 ∷ rest) small, behind, varint_laws_lem.back n (cipher ++ tag) (omega arith), eq-eqb _ _ size, allowed)
+    (ap (λ ys. Ok (parted ys index (2 + k + 1 + l) n)) (sym flat) ∙ ap Ok (cut xs cipher tag index (2 + k + 1 + l) from))

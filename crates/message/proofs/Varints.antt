@@ -14,10 +14,6 @@ abbrev pub after : ℕ → ℕ → ℕ → Option (ℕ × ℕ) → Option (ℕ �
 after n v u None = None
 after n v u (Some (w, k)) = cond (eqb w 0 && ltb 0 n) None (Some (v + u * w, n + k))
 
-after_none : (o : Option (ℕ × ℕ)) → o ≡ after 0 0 1 o
-after_none None = refl
-after_none (Some (w, k)) = grind (arith, nat_tests)
-
 after_beneath : (n v u d : ℕ) (o : Option (ℕ × ℕ)) → after n v u (beneath d o) ≡ after (n + 1) (v + u * d) (u * 128) o
 after_beneath n v u d None = refl
 after_beneath n v u d (Some (w, k)) = grind (arith, nat_tests, mul-add u d (128 * w), mul_assoc u 128 w)
@@ -32,9 +28,6 @@ pub record Reading (bs : List ℕ) (k v u : ℕ) : Type 0 where
   pub unit : u ≡ 128 ^ k
   pub low : v < u
   pub whole : read_groups bs ≡ after k v u (read_groups (drop k bs))
-
-pub at_start : (bs : List ℕ) → Reading bs 0 0 1
-at_start bs = record { few = omega arith; unit = refl; low = omega arith; whole = after_none (read_groups bs) }
 
 module _ (bs : List ℕ) (k v u : ℕ) (at : Reading bs k v u) where
   pub at_more : (x : ℕ) → k < 5 → k < length bs → 128 ≤ get_or bs k 0 → get_or bs k 0 < 256 → x ≡ get_or bs k 0 - 128 → Reading bs (k + 1) (v + u * x) (u * 128)
