@@ -1,20 +1,35 @@
-ghost use Rattle.std.specs.Prelude.{◌≡◌, ◌≤◌, length};
+ghost use Rattle.std.specs.Prelude.{◌≡◌, ◌<◌, ◌≤◌, length, IfSome};
 ghost use Rattle.message.specs.Frame.{keyed, starts, cipher_at, framed, FrameLaw};
 ghost use Rattle.message.specs.Numbers.{frame_number};
 
 use crate::varint::read_varint;
 use ratchet::suite::Suite;
+use std::marker::{Model, PhantomData};
 
-// What a message says before its cipher, and where in its bytes the cipher stands; the tag follows the cipher.
-#[derive(Clone, Copy)]
-pub struct Frame {
+// A message as a suite P lays it out: its index, and the parts of its bytes. The cipher ends the body.
+#[derive(Clone, Debug, Drop)]
+pub struct Frame<'a, P: Suite> {
     pub index: u32,
-    pub from: usize,
-    pub size: usize,
+    // All that the tag is of.
+    pub body: &'a [u8],
+    pub cipher: &'a [u8],
+    pub tag: &'a [u8; 8],
+    suite: PhantomData<P>,
+}
+
+impl<'a, P: Suite> Model for Frame<'a, P> {
+    ghost use Rattle.std.specs.Prelude.{◌≡◌, ◌≤◌, true, length};
+    ghost use Rattle.message.specs.Frame.{Framed};
+
+    ghost Value = { Framed };
+
+    ghost view = { λ f. record { index = f.index; body = f.body.now; cipher = f.cipher.now; tag = f.tag.now } };
+
+    ghost invariant = { λ f. (P.suite.allowed (length f.cipher.now) ≡ true) × (length f.cipher.now ≤ 4116) };
 }
 
 // Why bytes are no message, by its number.
-#[derive(Clone, Copy)]
+#[derive(Clone, Copy, Debug, PartialEq, Eq)]
 pub enum FrameFault {
     Start = 7,
     Index = 8,
@@ -32,55 +47,63 @@ impl From<FrameFault> for u8 {
 
 // The number behind a key byte, and how many bytes it takes.
 fn read_keyed(key: u8, bytes: &[u8]) -> Option<(u32, usize)>
-    ensures { result ≡ keyed key bytes.now }
+    ensures value { result ≡ keyed key bytes.now }
+    ensures taken { IfSome result (λ p. (1 ≤ p.1) × (p.1 < length bytes.now) × (128 ≤ p.0 → 2 ≤ p.1)) }
 {
-    if bytes.is_empty() || bytes[0] != key {
+    let (first, rest) = bytes.split_first()?;
+    if *first != key {
         return None;
     }
-    read_varint(&bytes[1..])
+    read_varint(rest)
 }
 
 fn starts_right<P: Suite>(message: &[u8]) -> bool
     ensures { result ≡ starts P.suite message.now }
 {
-    if message.is_empty() {
-        return false;
-    }
-    (message.len() <= 4130) & (message[0] == P::message_byte())
+    message.len() <= 4130 && message.first() == Some(&P::message_byte())
 }
 
-// Where the cipher stands behind an index that ends at a place.
-fn read_cipher<P: Suite>(message: &[u8], index: u32, at: usize) -> Result<Frame, FrameFault>
-    requires within { at ≤ length message.now }
+// Reads what follows an index that ends at a place.
+fn read_cipher<'a, P: Suite>(
+    message: &'a [u8],
+    index: u32,
+    at: usize,
+) -> Result<Frame<'a, P>, FrameFault>
+    requires within { (3 ≤ at) × (at ≤ length message.now) }
     requires short { length message.now ≤ 4130 }
     ensures { result ≡ cipher_at P.suite message.now index at }
 {
-    let Some((n, k)) = read_keyed(0x12, &message[at..]) else {
-        return Err(FrameFault::Cipher);
-    };
+    let (n, k) = read_keyed(0x12, &message[at..]).ok_or(FrameFault::Cipher)?;
     let from = at + 1 + k;
-    let size = n as usize;
-    if message.len() != from + size + 8 {
+    let (cipher, tag) = message[from..]
+        .split_last_chunk()
+        .ok_or(FrameFault::Cipher)?;
+    if cipher.len() != n as usize {
         return Err(FrameFault::Cipher);
     }
-    if P::allows(size) {
-        Ok(Frame { index, from, size })
-    } else {
-        Err(FrameFault::Length)
+    if !P::allows(cipher.len()) {
+        return Err(FrameFault::Length);
     }
+    let body = &message[..from + cipher.len()];
+    Ok(Frame {
+        index,
+        body,
+        cipher,
+        tag,
+        suite: PhantomData,
+    })
 }
 
-// Reads a message up to its cipher.
-pub fn read_frame<P: Suite>(message: &[u8]) -> Result<Frame, FrameFault>
+// Reads a message.
+#[tactic(auto, unfolding(crate::specs::Frame::framed))]
+pub fn read_frame<P: Suite>(message: &[u8]) -> Result<Frame<'_, P>, FrameFault>
     ensures { result ≡ framed P.suite message.now }
 {
     if !starts_right::<P>(message) {
         return Err(FrameFault::Start);
     }
-    match read_keyed(0x08, &message[1..]) {
-        Some((index, k)) => read_cipher::<P>(message, index, 2 + k),
-        None => Err(FrameFault::Index),
-    }
+    let (index, k) = read_keyed(0x08, &message[1..]).ok_or(FrameFault::Index)?;
+    read_cipher::<P>(message, index, 2 + k)
 }
 
 // A message is read as it was laid out.

@@ -6,6 +6,7 @@ ghost use Rattle.message.specs.Varint.{read_varint, VarintLaws};
 pub fn read_varint(bytes: &[u8]) -> Option<(u32, usize)>
     ensures { result ≡ read_varint bytes.now }
 {
+    // The form stays as the project asks: a loop that breaks with value and length, and a label out of it for all refusals.
     let mut at: usize = 0;
     let mut value: u64 = 0;
     let mut unit: u64 = 1;

@@ -1,8 +1,9 @@
 -- What opening a message gives, by what is shown of its session.
-use Rattle.std.specs.Prelude.{ℕ, ◌+◌, cond, List, length, take, drop, Some, None, Ok, Err, Option, Result}
+use Rattle.std.specs.Prelude.{ℕ, cond, List, length, Some, None, Ok, Err, Option, Result}
 use Rattle.std.specs.Str.{bytes_eq}
 use Rattle.ratchet.specs.declared.copies.Advanced.{Advanced}
 use Rattle.ratchet.specs.declared.copies.AdvanceRefusal.{AdvanceRefusal}
+use Rattle.ratchet.specs.declared.copies.AdvanceRefusal.TheVariants.{TargetBelow}
 use Rattle.ratchet.specs.declared.copies.Holding.{Holding}
 use Rattle.ratchet.specs.declared.copies.Holding.TheVariants.{Held, Disputed}
 use Rattle.ratchet.specs.Advance.{advanced}
@@ -11,10 +12,9 @@ use Rattle.ratchet.specs.Suite.{Meaning, parts}
 use Rattle.copy_bytes.specs.declared.output.SpaceRefusal.{SpaceRefusal}
 use Rattle.copy_bytes.specs.declared.output.SpaceRefusal.TheVariants.{TooSmall}
 use Rattle.copy_bytes.specs.Output.{fits, filled}
-use Rattle.message.specs.declared.frame.Frame.{Frame}
 use Rattle.message.specs.declared.frame.FrameFault.{FrameFault}
 use Rattle.message.specs.declared.frame.FrameFault.TheVariants.{Start, Index, Cipher, Length}
-use Rattle.message.specs.Frame.{framed}
+use Rattle.message.specs.Frame.{Framed, framed}
 use Rattle.opening.specs.declared.unseal.Opened.{Opened}
 use Rattle.opening.specs.declared.unseal.OpenRefusal.{OpenRefusal}
 use Rattle.opening.specs.declared.unseal.OpenRefusal.TheVariants.{Start as NoStart, Index as NoIndex, Cipher as NoCipher, Length as NoLength, Absent, Disputed as InDispute, Early, Tag, Text, TooSmall as NoSpace}
@@ -34,9 +34,12 @@ frame_refusal Length = NoLength
 abbrev pub space_refusal : SpaceRefusal → OpenRefusal
 space_refusal TooSmall = NoSpace
 
+abbrev pub advance_refusal : AdvanceRefusal → OpenRefusal
+advance_refusal TargetBelow = Early
+
 abbrev pub not_early : {P : Type 0} → Result (Advanced P) AdvanceRefusal → Result (Advanced P) OpenRefusal
 not_early (Ok a) = Ok a
-not_early (Err e) = Err Early
+not_early (Err e) = Err (advance_refusal e)
 
 module _ {P : Type 0} (m : Meaning P) where
   -- the held copy advanced to an index: the session has to be held, undisputed, and not past the index
@@ -45,27 +48,25 @@ module _ {P : Type 0} (m : Meaning P) where
   held_at (Some Disputed) index = Err InDispute
   held_at (Some (Held c)) index = not_early (advanced m.hash c index)
 
-  abbrev pub texted : Frame → Advanced P → Option (List ℕ) → Result Unsealed OpenRefusal
+  abbrev pub texted : Framed → Advanced P → Option (List ℕ) → Result Unsealed OpenRefusal
   texted f a (Some text) = Ok (record { text = text; index = f.index; hashes = a.hashes })
   texted f a None = Err Text
 
-  -- the tag of all before it has to be right, and then the cipher has to give a text
-  abbrev pub checked : List ℕ → Frame → Advanced P → Result Unsealed OpenRefusal
-  checked bs f a =
-      cond (bytes_eq (m.tag (parts a.copy) (take (f.from + f.size) bs)) (drop (f.from + f.size) bs))
-      (texted f a (m.decipher (parts a.copy) (take f.size (drop f.from bs)))) (Err Tag)
+  -- the tag of the body has to be right, and then the cipher has to give a text
+  abbrev pub checked : Framed → Advanced P → Result Unsealed OpenRefusal
+  checked f a = cond (bytes_eq (m.tag (parts a.copy) f.body) f.tag) (texted f a (m.decipher (parts a.copy) f.cipher)) (Err Tag)
 
-  abbrev pub by_copy : List ℕ → Frame → Result (Advanced P) OpenRefusal → Result Unsealed OpenRefusal
-  by_copy bs f (Ok a) = checked bs f a
-  by_copy bs f (Err e) = Err e
+  abbrev pub by_copy : Framed → Result (Advanced P) OpenRefusal → Result Unsealed OpenRefusal
+  by_copy f (Ok a) = checked f a
+  by_copy f (Err e) = Err e
 
-  abbrev pub by_frame : List ℕ → Option (Holding P) → Result Frame FrameFault → Result Unsealed OpenRefusal
-  by_frame bs shown (Ok f) = by_copy bs f (held_at shown f.index)
-  by_frame bs shown (Err e) = Err (frame_refusal e)
+  abbrev pub by_frame : Option (Holding P) → Result Framed FrameFault → Result Unsealed OpenRefusal
+  by_frame shown (Ok f) = by_copy f (held_at shown f.index)
+  by_frame shown (Err e) = Err (frame_refusal e)
 
   -- the message is read before the session is looked at
   unfoldable pub unsealed : Option (Holding P) → List ℕ → Result Unsealed OpenRefusal
-  unsealed shown bs = by_frame bs shown (framed m bs)
+  unsealed shown bs = by_frame shown (framed m bs)
 
 -- the answer without the text, and the text laid over a scratch
 abbrev pub told : Result Unsealed OpenRefusal → Result Opened OpenRefusal

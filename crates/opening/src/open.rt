@@ -30,6 +30,7 @@ pub fn open<P: Suite, S: Store<Id, Holding<P>>>(
     ensures value { result ≡ opened (unsealed P.suite (looked id_number (S.means store.now) id) message.now) out.old }
     ensures after { out.new ≡ open_output (unsealed P.suite (looked id_number (S.means store.now) id) message.now) out.old }
 {
+    // An array with the length told beside it, since the library allocates nothing.
     let mut scratch = [0; 4111];
     let told = unseal(store.look(id), message, &mut scratch)?;
     put(&scratch[..told.size], out)?;

@@ -1,15 +1,15 @@
-ghost use Rattle.std.specs.Prelude.{◌≡◌, ◌+◌, ◌≤◌, true, length, IfOk};
-ghost use Rattle.std.specs.Str.{bytes_eq};
-ghost use Rattle.opening.specs.Open.{frame_refusal, held_at, checked, unsealed, told, text_over};
+ghost use Rattle.std.specs.Prelude.{◌≡◌, ◌≤◌, IfOk};
+ghost use Rattle.opening.specs.Open.{frame_refusal, advance_refusal, held_at, checked, unsealed, told, text_over};
 ghost use Rattle.opening.specs.Numbers.{open_number};
 
 use message::frame::{Frame, FrameFault, read_frame};
 use ratchet::advance::advance;
-use ratchet::copies::{Advanced, Holding};
+use ratchet::copies::{AdvanceRefusal, Advanced, Holding};
 use ratchet::suite::Suite;
 
 // What an opened message tells: the length of its text, its index, and the hashes from the shown copy to it.
-#[derive(Clone, Copy)]
+// The text itself lies in an array that the caller lends, since the library allocates nothing.
+#[derive(Clone, Copy, Debug, PartialEq, Eq)]
 pub struct Opened {
     pub size: usize,
     pub index: u32,
@@ -17,7 +17,7 @@ pub struct Opened {
 }
 
 // Why a message is not opened, by its number.
-#[derive(Clone, Copy)]
+#[derive(Clone, Copy, Debug, PartialEq, Eq)]
 pub enum OpenRefusal {
     Start = 7,
     Index = 8,
@@ -52,58 +52,50 @@ impl From<FrameFault> for OpenRefusal {
     }
 }
 
+impl From<AdvanceRefusal> for OpenRefusal {
+    ghost from_gives = { λ e r. r ≡ advance_refusal e };
+
+    fn from(e: AdvanceRefusal) -> OpenRefusal {
+        match e {
+            AdvanceRefusal::TargetBelow => OpenRefusal::Early,
+        }
+    }
+}
+
 // The shown copy, advanced to an index.
 fn held_at<P: Suite>(shown: Option<Holding<P>>, index: u32) -> Result<Advanced<P>, OpenRefusal>
     ensures { result ≡ held_at P.suite shown index }
 {
     match shown {
-        Some(Holding::Held(copy)) => match advance(copy, index) {
-            Ok(there) => Ok(there),
-            Err(_) => Err(OpenRefusal::Early),
-        },
+        Some(Holding::Held(copy)) => Ok(advance(copy, index)?),
         Some(Holding::Disputed) => Err(OpenRefusal::Disputed),
         None => Err(OpenRefusal::Absent),
     }
 }
 
-fn same_bytes(a: &[u8], b: &[u8]) -> bool
-    ensures { result ≡ bytes_eq a.now b.now }
-{
-    a == b
-}
-
 // Checks the tag, and then deciphers into a scratch.
 fn check<P: Suite>(
-    message: &[u8],
-    frame: Frame,
+    frame: &Frame<P>,
     there: &Advanced<P>,
-    scratch: &mut [u8],
+    scratch: &mut [u8; 4111],
 ) -> Result<Opened, OpenRefusal>
-    requires whole { length message.now ≡ frame.from + frame.size + 8 }
-    requires allowed { P.suite.allowed frame.size ≡ true }
-    requires short { frame.size ≤ 4116 }
-    requires room { 4111 ≤ length scratch.old }
-    ensures value { result ≡ told (checked P.suite message.now frame there.now) }
-    ensures after { scratch.new ≡ text_over (checked P.suite message.now frame there.now) scratch.old }
+    ensures value { result ≡ told (checked P.suite frame.now there.now) }
+    ensures after { scratch.new ≡ text_over (checked P.suite frame.now there.now) scratch.old }
     ensures fits { IfOk result (λ o. o.size ≤ 4111) }
 {
-    let from = frame.from;
-    let end = from + frame.size;
-    let tag = P::tag(&there.copy, &message[..end]);
-    if !same_bytes(&tag, &message[end..]) {
+    if P::tag(&there.copy, frame.body) != *frame.tag {
         return Err(OpenRefusal::Tag);
     }
-    match P::decipher(&there.copy, &message[from..end], scratch) {
-        Some(size) => Ok(Opened {
-            size,
-            index: frame.index,
-            hashes: there.hashes,
-        }),
-        None => Err(OpenRefusal::Text),
-    }
+    let size = P::decipher(&there.copy, frame.cipher, scratch).ok_or(OpenRefusal::Text)?;
+    Ok(Opened {
+        size,
+        index: frame.index,
+        hashes: there.hashes,
+    })
 }
 
 // Opens a message by what is shown of its session, into a scratch.
+#[tactic(auto, unfolding(crate::specs::Open::unsealed))]
 pub fn unseal<P: Suite>(
     shown: Option<Holding<P>>,
     message: &[u8],
@@ -113,7 +105,7 @@ pub fn unseal<P: Suite>(
     ensures after { scratch.new ≡ text_over (unsealed P.suite shown message.now) scratch.old }
     ensures fits { IfOk result (λ o. o.size ≤ 4111) }
 {
-    let frame = read_frame::<P>(message)?;
+    let frame = read_frame(message)?;
     let there = held_at(shown, frame.index)?;
-    check(message, frame, &there, scratch)
+    check(&frame, &there, scratch)
 }

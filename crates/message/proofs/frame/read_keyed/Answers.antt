@@ -1,9 +1,5 @@
-use Rattle.std.proofs.Common.{sym, ◌∙◌, arith}
-use Rattle.std.proofs.lemmas.Bool.{eqb-false}
-use Rattle.message.proofs.Frames.{keyed_goes}
+use Rattle.message.proofs.Varints.{takes}
 use Rattle.message.proofs.frame.read_keyed.Goals as goal
 
-pub returns : goal.returns
-returns c =
-    let some = eqb-false _ _ (sym c.if-is_empty.ensures) in
-    c.read_varint.ensures ∙ sym (keyed_goes c.args.key c.args.bytes.now (omega arith) c.if-bytes-key.false)
+pub returns-clause-taken : goal.returns-clause-taken
+returns-clause-taken c = rw c.read_varint.ensures (takes _ _ c.in_ok-first.ensures.cases.1)

@@ -1,80 +1,20 @@
-use Rattle.std.proofs.Common.{ℕ, ◌+◌, ◌*◌, ◌≤◌, get_or, drop, sym, ap, ◌∙◌, ⊎_elim, mul-le-mul, arith}
-use Rattle.std.proofs.lemmas.List.{at_drop_more, at_drop_all}
-use Rattle.std.proofs.lemmas.Bool.{lt-ltb, le-ltb, cond-true, cond-false}
-use Rattle.message.specs.Varint.{read_groups, within}
-use Rattle.message.proofs.Varints.{after, unit_small, unit_large, unit_more, product, past, at_end, at_more, at_zero, number_at}
+use Rattle.std.proofs.Common.{arith}
+use Rattle.std.proofs.lemmas.Bool.Decides.{nat_tests}
+use Rattle.message.proofs.Varints.{at_more, at_last, at_end}
 use Rattle.message.proofs.varint.read_varint.Goals as goal
-
--- the product at the last byte
-last-product : (c : goal.After-from) → c.loop-at.unit * c.from.result ≤ 34091302912
-last-product c =
-    product c.loop-at.unit c.from.result (unit_small c.loop-at.at _ c.loop-at.invariant.1 c.if-at-ge5.false) (omega (arith, c.from.ensures, c.if-b-lt128.true))
-
-pub overflow_mul-v : goal.overflow_mul-v
-overflow_mul-v c = omega (arith, last-product c)
-
-pub overflow_add-v : goal.overflow_add-v
-overflow_add-v c = omega (arith, last-product c, unit_small c.loop-at.at _ c.loop-at.invariant.1 c.if-at-ge5.false)
-
--- the product at a byte before the last
-more-product : (c : goal.After-from-in-loop-at) → c.loop-at.unit * c.from-in-loop-at.result ≤ 34091302912
-more-product c =
-    product c.loop-at.unit c.from-in-loop-at.result (unit_small c.loop-at.at _ c.loop-at.invariant.1 c.if-at-ge5.false)
-    (omega (arith, c.from-in-loop-at.ensures, c.type_inv.bytes c.loop-at.at))
-
-pub overflow_mul-value : goal.overflow_mul-value
-overflow_mul-value c = omega (arith, more-product c)
-
-pub overflow_add-value : goal.overflow_add-value
-overflow_add-value c = omega (arith, more-product c, unit_small c.loop-at.at _ c.loop-at.invariant.1 c.if-at-ge5.false)
-
-pub overflow_mul-unit : goal.overflow_mul-unit
-overflow_mul-unit c = omega (arith, unit_small c.loop-at.at _ c.loop-at.invariant.1 c.if-at-ge5.false)
 
 pub loop-at-preserved : goal.loop-at-preserved
 loop-at-preserved c =
-    let k = c.loop-at.at in
-    let v = c.loop-at.value in
-    let u = c.loop-at.unit in
-    let xs = c.args.bytes.now in
-    let b : ℕ = get_or xs k 0 in
-    let d : ℕ = c.from-in-loop-at.result in
-    let d≤ : d ≤ 127 = omega (arith, c.from-in-loop-at.ensures, c.type_inv.bytes k) in (
-      omega arith,
-      unit_more k u c.loop-at.invariant.1,
-      omega (arith, mul-le-mul {n₁ = u} {m₁ = d} {n₂ = u} {m₂ = 127} (omega arith) d≤, c.loop-at.invariant.2),
-      ap (λ (x : ℕ). after (k + 1) (v + u * x) (u * 128) (read_groups (drop (k + 1) xs))) c.from-in-loop-at.ensures
-          ∙ sym (at_more k v u b (drop (k + 1) xs) c.if-b-lt128.false)
-          ∙ sym (at_drop_more (λ ys. after k v u (read_groups ys)) xs k 0 c.if-at-bytes.false) ∙ c.loop-at.invariant.3,
-    )
+    at_more _ _ _ _ c.loop-at.invariant _ c.if-at-ge5.false c.if-at-bytes.false c.if-b-lt128.false (omega (arith, c.type_inv.bytes c.loop-at.at)) c.from-in-loop-at.ensures
 
 pub returns-then-v-lt4294967296 : goal.returns-then-v-lt4294967296
-returns-then-v-lt4294967296 c =
-    let e = number_at c.loop-at.at c.loop-at.value c.loop-at.unit c.from.result c.args.bytes.now
-    c.if-at-bytes.false c.loop-at.invariant.3 c.from.ensures c.if-b-lt128.true c.else-b-eq0.either in
-    sym (ap within e ∙ cond-true _ _ _ (lt-ltb _ _ c.if-v-lt4294967296.true))
-
-pub returns-else-v-lt4294967296 : goal.returns-else-v-lt4294967296
-returns-else-v-lt4294967296 c =
-    let e = number_at c.loop-at.at c.loop-at.value c.loop-at.unit c.from.result c.args.bytes.now
-    c.if-at-bytes.false c.loop-at.invariant.3 c.from.ensures c.if-b-lt128.true c.else-b-eq0.either in
-    sym (ap within e ∙ cond-false _ _ _ (le-ltb _ _ c.if-v-lt4294967296.false))
+returns-then-v-lt4294967296 c = rw (at_last _ _ _ _ c.loop-at.invariant c.if-at-bytes.false c.if-b-lt128.true) (grind (arith, nat_tests))
 
 pub returns-then-at-ge5 : goal.returns-then-at-ge5
-returns-then-at-ge5 c =
-    let k = c.loop-at.at in
-    let v = c.loop-at.value in
-    let u = c.loop-at.unit in
-    let xs = c.args.bytes.now in
-    sym (ap within (sym c.loop-at.invariant.3) ∙ ⊎_elim
-    (λ h. past k v u (read_groups (drop k xs)) (omega arith) (omega (arith, unit_large k u c.loop-at.invariant.1 h)))
-    (λ p. ap within (at_drop_all (λ ys. after k v u (read_groups ys)) xs k p.1 ∙ at_end k v u)) c.then-at-ge5.either)
+returns-then-at-ge5 c = at_end _ _ _ _ c.loop-at.invariant c.then-at-ge5.either
 
 pub returns-then-at-gt0 : goal.returns-then-at-gt0
-returns-then-at-gt0 c =
-    let k = c.loop-at.at in
-    let v = c.loop-at.value in
-    let u = c.loop-at.unit in
-    let xs = c.args.bytes.now in
-    sym (ap within (sym c.loop-at.invariant.3 ∙ at_drop_more (λ ys. after k v u (read_groups ys)) xs k 0 c.if-at-bytes.false
-    ∙ at_zero k v u (get_or xs k 0) (drop (k + 1) xs) c.if-b-eq0.true c.if-at-gt0.true))
+returns-then-at-gt0 c = rw (at_last _ _ _ _ c.loop-at.invariant c.if-at-bytes.false c.if-b-lt128.true) (grind (arith, nat_tests))
+
+pub returns-else-v-lt4294967296 : goal.returns-else-v-lt4294967296
+returns-else-v-lt4294967296 c = rw (at_last _ _ _ _ c.loop-at.invariant c.if-at-bytes.false c.if-b-lt128.true) (grind (arith, nat_tests))
