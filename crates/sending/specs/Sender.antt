@@ -1,21 +1,22 @@
 -- What a sender is to its callers, and what sealing and sharing answer and leave.
-use Rattle.std.specs.Prelude.{ℕ, ◌+◌, ◌-◌, ◌^◌, Bool, cond, not, ◌&&◌, List, length, Err, Result, ◌==◌, nat_le}
+use Rattle.std.specs.Prelude.{ℕ, ◌+◌, ◌-◌, ◌^◌, Bool, cond, List, length, Err, Result, ◌==◌, nat_le, is_ok}
 use Rattle.std.specs.Result.{result_map_both}
 use Rattle.ratchet.specs.declared.copies.SessionCopy.{SessionCopy}
 use Rattle.ratchet.specs.declared.ids.Id.{Id}
+use Rattle.ratchet.specs.Bytes.{laid}
 use Rattle.ratchet.specs.Suite.{Meaning}
 use Rattle.ratchet.specs.Ratchet.{steps}
 use Rattle.copy_bytes.specs.declared.named.CopyFault.{CopyFault}
 use Rattle.copy_bytes.specs.declared.named.Version.TheVariants.{Share}
 use Rattle.copy_bytes.specs.CopyBytes.{copy_bytes, read_start}
-use Rattle.copy_bytes.specs.Output.{fits, answered, filled}
+use Rattle.copy_bytes.specs.Output.{answered}
 use Rattle.sending.specs.declared.sender.SealRefusal.{SealRefusal}
 use Rattle.sending.specs.declared.sender.SealRefusal.TheVariants.{TooSmall as NoSpace, TextTooLong, Spent}
 use Rattle.sending.specs.declared.sender.ShareRefusal.{ShareRefusal}
 use Rattle.sending.specs.declared.sender.ShareRefusal.TheVariants.{TooSmall as NoRoom, Ahead}
 use Rattle.message.specs.Seal.{sealed}
 
--- a sender: its session's id, the copy that it starts from, at index 0, and how many indices it has sealed a message at, from 0 on
+-- a sender: its session's id, its copy at index 0, and how many indices are used up from there on, each by one message
 pub record Session (P : Type 0) : Type 0 where
   pub id : Id
   pub start : SessionCopy P
@@ -29,9 +30,6 @@ module _ {P : Type 0} where
   -- the last index stays the current one
   abbrev pub current_index : Session P → ℕ
   current_index s = cond (spent s) (2 ^ 32 - 1) s.used
-
-  abbrev pub may_seal : Session P → List ℕ → Bool
-  may_seal s text = nat_le (length text) 4096 && not (spent s)
 
   module _ (m : Meaning P) where
     -- four parts make a sender that has sealed nothing
@@ -53,12 +51,12 @@ module _ {P : Type 0} where
         (cond (spent s) (Err Spent) (result_map_both (λ n. n) (λ _. NoSpace) (answered (message s text) out))) (Err TextTooLong)
 
     abbrev pub seal_output : Session P → List ℕ → List ℕ → List ℕ
-    seal_output s text out = cond (may_seal s text) (filled (message s text) out) out
+    seal_output s text out = cond (is_ok (seal_answer s text out)) (laid (message s text) out) out
 
-    -- one more is sealed where a message was written, and else nothing changes
+    -- one more index is used where a message was written, and else nothing changes
     abbrev pub after_seal : Session P → List ℕ → List ℕ → Session P
     after_seal s text out =
-        cond (may_seal s text && fits (message s text) out) (record { id = s.id; start = s.start; used = s.used + 1 }) s
+        cond (is_ok (seal_answer s text out)) (record { id = s.id; start = s.start; used = s.used + 1 }) s
 
     -- the copy at an index, with the share byte and under the sender's id
     abbrev pub shared : Session P → ℕ → List ℕ
@@ -69,4 +67,4 @@ module _ {P : Type 0} where
         cond (nat_le index (current_index s)) (result_map_both (λ n. n) (λ _. NoRoom) (answered (shared s index) out)) (Err Ahead)
 
     abbrev pub share_output : Session P → ℕ → List ℕ → List ℕ
-    share_output s index out = cond (nat_le index (current_index s)) (filled (shared s index) out) out
+    share_output s index out = cond (is_ok (share_answer s index out)) (laid (shared s index) out) out

@@ -78,6 +78,7 @@ impl From<SpaceRefusal> for ShareRefusal {
 
 impl<P: Suite> Sender<P> {
     // A sender that has sealed nothing, from the bytes of its four parts at index 0.
+    #[tactic(auto, using(crate::proofs::Senders::start_index))]
     pub fn new(id: Id, start: &[u8]) -> Result<Sender<P>, CopyFault>
         ensures { result ≡ new_sender P.suite id start.now }
     {
@@ -96,6 +97,7 @@ impl<P: Suite> Sender<P> {
     }
 
     // Writes the message of a text at the current index, and steps; at the last index the sender is then spent.
+    #[tactic(auto, using(crate::proofs::Senders::next_kept))]
     pub fn seal(&mut self, text: &[u8], out: &mut [u8]) -> Result<usize, SealRefusal>
         ensures value { result ≡ seal_answer P.suite self.old text.now out.old }
         ensures output { out.new ≡ seal_output P.suite self.old text.now out.old }
