@@ -25,7 +25,7 @@ use std::alloc::AllocError;
 use store::meaning::Store;
 
 #[derive(Drop)]
-pub(crate) struct Archive<S, P> {
+pub(crate) struct Archive<S, P: Suite> {
     pub(crate) store: S,
     pub(crate) sender: Option<Sender<P>>,
 }

@@ -1,3 +1,3 @@
 pub mod Seals
+pub mod Varints
 pub mod Senders
-pub mod Written

@@ -9,6 +9,8 @@ use copy_bytes::output::SpaceRefusal;
 use ratchet::copies::SessionCopy;
 use ratchet::suite::Suite;
 
+// As copy_bytes has it for itself: a public one would have to test the place, and so could fail.
+#[tactic(auto, using(copy_bytes::proofs::Places::placed_part))]
 fn put_at(bytes: &[u8], out: &mut [u8], at: usize) -> usize
     requires { at + length bytes.now ≤ length out.old }
     ensures { Put at bytes.now out.old result out.new }
@@ -18,25 +20,22 @@ fn put_at(bytes: &[u8], out: &mut [u8], at: usize) -> usize
     end
 }
 
-// Writes the shortest form of a number at a place, and answers the place behind it.
+// Writes the shortest form of a number.
+#[tactic(auto, using(crate::proofs::Varints::varint_last, crate::proofs::Varints::varint_more))]
 fn put_varint(v: u32, out: &mut [u8], at: usize) -> usize
     requires { at + length (varint v) ≤ length out.old }
     ensures { Put at (varint v) out.old result out.new }
 {
-    let mut rest = v;
-    let mut end = at;
-    while rest >= 128 {
-        out[end] = (rest % 128) as u8 + 128;
-        rest /= 128;
-        end += 1;
+    if v < 128 {
+        return put_at(&[v as u8], out, at);
     }
-    out[end] = rest as u8;
-    end + 1
+    let next = put_at(&[(v % 128) as u8 + 128], out, at);
+    put_varint(v / 128, out, next)
 }
 
 // Writes what stands before a cipher of n bytes.
-fn write_head<P: Suite>(index: u32, n: u32, out: &mut [u8]) -> usize
-    requires { 13 ≤ length out.old }
+#[tactic(auto, using(crate::proofs::Seals::varint_size))]
+fn write_head<P: Suite>(index: u32, n: u32, out: &mut [u8; 13]) -> usize
     ensures { Put 0 (head P.suite index n) out.old result out.new }
 {
     let a = put_at(&[P::message_byte(), 0x08], out, 0);
@@ -46,6 +45,7 @@ fn write_head<P: Suite>(index: u32, n: u32, out: &mut [u8]) -> usize
 }
 
 // Writes the parts of a message and then its tag.
+#[tactic(auto, using(crate::proofs::Seals::length_tagged, copy_bytes::proofs::Places::too_small))]
 fn write_parts<P: Suite>(
     copy: &SessionCopy<P>,
     front: &[u8],
@@ -65,22 +65,8 @@ fn write_parts<P: Suite>(
     Ok(put_at(&tag, out, b))
 }
 
-// Writes the message of a cipher.
-fn write_message<P: Suite>(
-    copy: &SessionCopy<P>,
-    cipher: &[u8],
-    out: &mut [u8],
-) -> Result<usize, SpaceRefusal>
-    requires { length cipher.now ≤ 4112 }
-    ensures value { result ≡ answered (cipher_sealed P.suite copy.now cipher.now) out.old }
-    ensures after { out.new ≡ filled (cipher_sealed P.suite copy.now cipher.now) out.old }
-{
-    let mut front = [0; 13];
-    let size = write_head::<P>(copy.index, cipher.len() as u32, &mut front);
-    write_parts(copy, &front[..size], cipher, out)
-}
-
-// Writes the message that a copy seals for a text. The cipher's length is known only once it is made.
+// Writes the message that a copy seals for a text.
+#[tactic(auto, using(copy_bytes::proofs::Outputs::put_front, copy_bytes::proofs::Outputs::laid_front), unfolding(message::specs::Seal::sealed))]
 pub(crate) fn write_sealed<P: Suite>(
     copy: &SessionCopy<P>,
     text: &[u8],
@@ -90,7 +76,10 @@ pub(crate) fn write_sealed<P: Suite>(
     ensures value { result ≡ answered (sealed P.suite copy.now text.now) out.old }
     ensures after { out.new ≡ filled (sealed P.suite copy.now text.now) out.old }
 {
+    // Both are as long as they may get, with their length beside: nothing here is allocated.
     let mut cipher = [0; 4112];
     let n = P::encipher(copy, text, &mut cipher);
-    write_message(copy, &cipher[..n], out)
+    let mut front = [0; 13];
+    let size = write_head::<P>(copy.index, n as u32, &mut front);
+    write_parts(copy, &front[..size], &cipher[..n], out)
 }

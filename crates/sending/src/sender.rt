@@ -1,6 +1,5 @@
-ghost use Rattle.std.specs.Prelude.{◌≡◌, ◌-◌, IfOk};
-ghost use Rattle.ratchet.specs.Ratchet.{steps};
-ghost use Rattle.sending.specs.Sender.{at_start, Kept, reached, new_sender, seal_space, seal_answer, seal_output, after_seal, share_space, share_answer, share_output};
+ghost use Rattle.std.specs.Prelude.{◌≡◌};
+ghost use Rattle.sending.specs.Sender.{new_sender, current_index, seal_answer, seal_output, after_seal, share_answer, share_output};
 ghost use Rattle.sending.specs.Numbers.{seal_number, share_number};
 
 use crate::sealing::write_sealed;
@@ -12,18 +11,33 @@ use ratchet::advance::{advance, step};
 use ratchet::copies::SessionCopy;
 use ratchet::ids::Id;
 use ratchet::suite::Suite;
+use std::marker::Model;
 
-// A session's own side: it seals at its current copy, and shares the copy at any index that it has reached.
+// A session's own side: it seals one message at each index, and shares the copy at any index that it has reached.
 #[derive(Drop)]
-pub struct Sender<P> {
+pub struct Sender<P: Suite> {
     id: Id,
     start: SessionCopy<P>,
-    current: SessionCopy<P>,
-    spent: bool,
+    // What the next message is sealed with; none once the last index is used.
+    next: Option<SessionCopy<P>>,
+}
+
+impl<P: Suite> Model for Sender<P> {
+    ghost use Rattle.std.specs.Prelude.{◌≡◌, ◌^◌, IfSome};
+    ghost use Rattle.std.specs.Option.{option_map_or};
+    ghost use Rattle.ratchet.specs.Ratchet.{steps};
+    ghost use Rattle.sending.specs.Sender.{Session};
+
+    ghost Value = { Session P };
+
+    ghost view = { λ s. record { id = s.id; start = s.start; used = option_map_or (λ c. c.index) s.next (2 ^ 32) } };
+
+    // The next copy is the start, stepped singly to its index.
+    ghost invariant = { λ s. (s.start.index ≡ 0) × IfSome s.next (λ c. c ≡ steps P.suite.hash c.index s.start) };
 }
 
 // Why a text is not sealed, by its number.
-#[derive(Clone, Copy)]
+#[derive(Clone, Copy, Debug, PartialEq, Eq)]
 pub enum SealRefusal {
     TooSmall = 16,
     TextTooLong = 18,
@@ -39,7 +53,7 @@ impl From<SealRefusal> for u8 {
 }
 
 // Why a copy is not shared, by its number.
-#[derive(Clone, Copy)]
+#[derive(Clone, Copy, Debug, PartialEq, Eq)]
 pub enum ShareRefusal {
     TooSmall = 16,
     Ahead = 20,
@@ -54,7 +68,10 @@ impl From<ShareRefusal> for u8 {
 }
 
 impl From<SpaceRefusal> for SealRefusal {
-    ghost from_gives = { λ e r. r ≡ seal_space e };
+    ghost use Rattle.std.specs.Prelude.{◌≡◌};
+    ghost use Rattle.sending.specs.declared.sender.SealRefusal.TheVariants.{TooSmall};
+
+    ghost from_gives = { λ _ r. r ≡ TooSmall };
 
     fn from(e: SpaceRefusal) -> SealRefusal {
         match e {
@@ -64,7 +81,10 @@ impl From<SpaceRefusal> for SealRefusal {
 }
 
 impl From<SpaceRefusal> for ShareRefusal {
-    ghost from_gives = { λ e r. r ≡ share_space e };
+    ghost use Rattle.std.specs.Prelude.{◌≡◌};
+    ghost use Rattle.sending.specs.declared.sender.ShareRefusal.TheVariants.{TooSmall};
+
+    ghost from_gives = { λ _ r. r ≡ TooSmall };
 
     fn from(e: SpaceRefusal) -> ShareRefusal {
         match e {
@@ -73,52 +93,39 @@ impl From<SpaceRefusal> for ShareRefusal {
     }
 }
 
-fn started<P: Copy>(id: Id, copy: SessionCopy<P>) -> Sender<P>
-    ensures { result ≡ at_start id copy }
-{
-    Sender {
-        id,
-        start: copy,
-        current: copy,
-        spent: false,
-    }
-}
-
 impl<P: Suite> Sender<P> {
-    // A sender at index 0, from the bytes of four parts.
+    // A sender that has sealed nothing, from the bytes of its four parts at index 0.
+    #[tactic(auto, using(crate::proofs::Senders::start_index))]
     pub fn new(id: Id, start: &[u8]) -> Result<Sender<P>, CopyFault>
-        ensures value { result ≡ new_sender P.suite id start.now }
-        ensures kept { IfOk result (Kept P.suite) }
+        ensures { result ≡ new_sender P.suite id start.now }
     {
-        let copy = read_start(start)?;
-        Ok(started(id, copy))
+        let start = read_start(start)?;
+        Ok(Sender {
+            id,
+            start,
+            next: Some(start),
+        })
     }
 
     pub fn index(&self) -> u32
-        ensures { result ≡ self.now.current.index }
+        ensures { result ≡ current_index self.now }
     {
-        self.current.index
+        self.next.map_or(u32::MAX, |copy| copy.index)
     }
 
     // Writes the message of a text at the current index, and steps; at the last index the sender is then spent.
+    #[tactic(auto, using(crate::proofs::Senders::next_kept))]
     pub fn seal(&mut self, text: &[u8], out: &mut [u8]) -> Result<usize, SealRefusal>
         ensures value { result ≡ seal_answer P.suite self.old text.now out.old }
         ensures output { out.new ≡ seal_output P.suite self.old text.now out.old }
         ensures after { self.new ≡ after_seal P.suite self.old text.now out.old }
-        ensures kept { Kept P.suite self.old → Kept P.suite self.new }
     {
         if text.len() > 4096 {
             return Err(SealRefusal::TextTooLong);
         }
-        if self.spent {
-            return Err(SealRefusal::Spent);
-        }
-        let current = self.current;
+        let current = self.next.ok_or(SealRefusal::Spent)?;
         let size = write_sealed(&current, text, out)?;
-        match step(current) {
-            Some(next) => self.current = next,
-            None => self.spent = true,
-        }
+        self.next = step(current);
         Ok(size)
     }
 
@@ -126,22 +133,13 @@ impl<P: Suite> Sender<P> {
     pub fn share(&self, index: u32, out: &mut [u8]) -> Result<usize, ShareRefusal>
         ensures value { result ≡ share_answer P.suite self.now index out.old }
         ensures output { out.new ≡ share_output P.suite self.now index out.old }
-        ensures kept { Kept P.suite self.now → reached P.suite self.now index ≡ steps P.suite.hash index self.now.start }
     {
         if index > self.index() {
             return Err(ShareRefusal::Ahead);
         }
-        let copy = copy_at(self.start, index);
+        // No index lies below the start's.
+        let copy = advance(self.start, index).map_or(self.start, |there| there.copy);
         let size = write_copy(Version::Share, &NamedCopy { id: self.id, copy }, out)?;
         Ok(size)
-    }
-}
-
-fn copy_at<P: Suite>(start: SessionCopy<P>, index: u32) -> SessionCopy<P>
-    ensures { result ≡ steps P.suite.hash (index - start.index) start }
-{
-    match advance(start, index) {
-        Ok(there) => there.copy,
-        Err(_) => start,
     }
 }
