@@ -1,2 +1,2 @@
-pub mod Added
+pub mod Hexed
 pub mod ToGo

@@ -1,19 +1,20 @@
 // An archive and its sender, and what they answer to the calls of a script.
-ghost use Rattle.std.specs.Prelude.{◌≡◌, ◌++◌, Err, codes, decimal, OnOk};
+ghost use Rattle.std.specs.Prelude.{◌≡◌, ◌++◌, Err, codes, decimal, string_bytes, OnOk};
 ghost use Rattle.ratchet.specs.Ids.{id_number};
 ghost use Rattle.store.specs.Meaning.{looked, nexted};
 ghost use Rattle.console.specs.Lines.{look_line, next_line};
 ghost use Rattle.script.specs.declared.fault.LineFault.TheVariants.{BadLine};
 
-use crate::answers::{add_bytes, add_number, add_refusal, add_word, append};
+use crate::answers::{Hex, add_refusal};
 use crate::desk::{Desk, front};
-use crate::printing::{add_holding, add_id};
+use crate::printing::{Held, Name};
 use crate::walk::Serves;
 use copy_bytes::named::{Accepted, NamedCopy, Version};
 use copy_bytes::reading::read_copy;
 use copy_bytes::writing::write_copy;
 use intake::taking::take_bytes;
 use opening::open::open;
+use opening::unseal::Opened;
 use ratchet::advance::advance;
 use ratchet::copies::Holding;
 use ratchet::ids::Id;
@@ -35,7 +36,7 @@ fn take<P: Suite, S: Store<Id, Holding<P>>>(
     copy: &[u8],
     desk: &mut Desk,
 ) -> Result<(), AllocError> {
-    append(&mut desk.answers, b"take")?;
+    desk.answers.push_str("take")?;
     match take_bytes(store, copy) {
         Ok(()) => Ok(()),
         Err(refusal) => add_refusal(&mut desk.answers, refusal as u8),
@@ -47,7 +48,7 @@ fn dispute<P: Suite, S: Store<Id, Holding<P>>>(
     id: Id,
     desk: &mut Desk,
 ) -> Result<(), AllocError> {
-    append(&mut desk.answers, b"dispute")?;
+    desk.answers.push_str("dispute")?;
     match store.take(id, Holding::Disputed) {
         Ok(()) => Ok(()),
         Err(refusal) => add_refusal(&mut desk.answers, refusal as u8),
@@ -59,12 +60,11 @@ fn look<P: Suite, S: Store<Id, Holding<P>>>(
     id: Id,
     desk: &mut Desk,
 ) -> Result<(), AllocError>
-    ensures { OnOk result (desk.new.answers.items ≡ desk.old.answers.items ++ look_line P.suite (looked id_number (S.means store.now) id)) }
+    ensures { OnOk result (string_bytes desk.new.answers ≡ string_bytes desk.old.answers ++ look_line P.suite (looked id_number (S.means store.now) id)) }
 {
-    append(&mut desk.answers, b"look")?;
     match store.look(id) {
-        Some(holding) => add_holding(&mut desk.answers, holding),
-        None => add_word(&mut desk.answers, b"none"),
+        Some(holding) => write!(desk.answers, "look{}", Held(holding)),
+        None => write!(desk.answers, "look none"),
     }
 }
 
@@ -73,15 +73,11 @@ fn next<P: Suite, S: Store<Id, Holding<P>>>(
     last: Option<Id>,
     desk: &mut Desk,
 ) -> Result<(), AllocError>
-    ensures { OnOk result (desk.new.answers.items ≡ desk.old.answers.items ++ next_line P.suite (nexted id_number (S.means store.now) last)) }
+    ensures { OnOk result (string_bytes desk.new.answers ≡ string_bytes desk.old.answers ++ next_line P.suite (nexted id_number (S.means store.now) last)) }
 {
-    append(&mut desk.answers, b"next")?;
     match store.next(&last) {
-        Some(e) => {
-            add_id(&mut desk.answers, e.0)?;
-            add_holding(&mut desk.answers, e.1)
-        }
-        None => add_word(&mut desk.answers, b"none"),
+        Some((id, holding)) => write!(desk.answers, "next {}{}", Name(id), Held(holding)),
+        None => write!(desk.answers, "next none"),
     }
 }
 
@@ -91,50 +87,74 @@ fn open_message<P: Suite, S: Store<Id, Holding<P>>>(
     message: &[u8],
     desk: &mut Desk,
 ) -> Result<(), AllocError> {
-    append(&mut desk.answers, b"open")?;
-    match open(store, id, message, desk.offered()) {
-        Ok(opened) => {
-            add_number(&mut desk.answers, opened.index as u64)?;
-            add_number(&mut desk.answers, opened.hashes as u64)?;
-            add_bytes(&mut desk.answers, front(&desk.output, opened.size))
+    desk.answers.push_str("open")?;
+    match open(store, id, message, &mut desk.output) {
+        Ok(
+            Opened {
+                size,
+                index,
+                hashes,
+            },
+        ) => {
+            let text = Hex(front(&desk.output, size));
+            write!(desk.answers, " {index} {hashes} {text}")
         }
         Err(refusal) => add_refusal(&mut desk.answers, refusal as u8),
     }
 }
 
 fn free<P: Suite, S: Store<Id, Holding<P>>>(store: &S, desk: &mut Desk) -> Result<(), AllocError>
-    ensures { OnOk result (desk.new.answers.items ≡ desk.old.answers.items ++ (codes "free " ++ decimal (S.means store.now).places)) }
+    ensures { OnOk result (string_bytes desk.new.answers ≡ string_bytes desk.old.answers ++ (codes "free " ++ decimal (S.means store.now).places)) }
 {
-    append(&mut desk.answers, b"free")?;
-    add_number(&mut desk.answers, store.free() as u64)
+    write!(desk.answers, "free {}", store.free())
 }
 
 fn floor<P: Suite, S: Store<Id, Holding<P>>>(store: &S, desk: &mut Desk) -> Result<(), AllocError>
-    ensures { OnOk result (desk.new.answers.items ≡ desk.old.answers.items ++ (codes "floor " ++ decimal (S.means store.now).floor)) }
+    ensures { OnOk result (string_bytes desk.new.answers ≡ string_bytes desk.old.answers ++ (codes "floor " ++ decimal (S.means store.now).floor)) }
 {
-    append(&mut desk.answers, b"floor")?;
-    add_number(&mut desk.answers, store.floor() as u64)
+    write!(desk.answers, "floor {}", store.floor())
 }
 
-// The space limits no advance: its output is no call's.
+// The copy at a target, and the hashes to it, or the number of a refusal.
+fn moved<P: Suite>(bytes: &[u8], target: u32) -> Result<(u32, NamedCopy<P>), u8> {
+    let named = read_copy(bytes, Accepted::ShareOrExport).map_err(|fault| fault as u8)?;
+    let there = advance(named.copy, target).map_err(|refusal| refusal as u8)?;
+    Ok((
+        there.hashes,
+        NamedCopy {
+            id: named.id,
+            copy: there.copy,
+        },
+    ))
+}
+
+// The space limits no advance: its copy has room of its own, for the widest parts.
 fn advance_bytes<P: Suite>(bytes: &[u8], target: u32, desk: &mut Desk) -> Result<(), AllocError> {
-    append(&mut desk.answers, b"advance")?;
-    let named = match read_copy::<P>(bytes, Accepted::ShareOrExport) {
-        Ok(named) => named,
-        Err(fault) => return add_refusal(&mut desk.answers, fault as u8),
-    };
-    let there = match advance(named.copy, target) {
-        Ok(there) => there,
-        Err(refusal) => return add_refusal(&mut desk.answers, refusal as u8),
-    };
-    add_number(&mut desk.answers, there.hashes as u64)?;
-    let moved = NamedCopy {
-        id: named.id,
-        copy: there.copy,
-    };
-    match write_copy(Version::Export, &moved, &mut desk.output) {
-        Ok(n) => add_bytes(&mut desk.answers, front(&desk.output, n)),
-        Err(refusal) => add_refusal(&mut desk.answers, refusal as u8),
+    desk.answers.push_str("advance")?;
+    let mut copy = [0; 4133];
+    match moved::<P>(bytes, target) {
+        Ok((hashes, named)) => {
+            write!(desk.answers, " {hashes}")?;
+            let written = write_copy(Version::Export, &named, &mut copy);
+            add_written(
+                &mut desk.answers,
+                &copy,
+                written.map_err(|refusal| refusal as u8),
+            )
+        }
+        Err(number) => add_refusal(&mut desk.answers, number),
+    }
+}
+
+// What a call wrote, or the number of its refusal.
+fn add_written(
+    out: &mut String,
+    output: &[u8],
+    written: Result<usize, u8>,
+) -> Result<(), AllocError> {
+    match written {
+        Ok(n) => write!(out, " {}", Hex(front(output, n))),
+        Err(number) => add_refusal(out, number),
     }
 }
 
@@ -144,10 +164,10 @@ fn make_sender<P: Suite>(
     start: &[u8],
     desk: &mut Desk,
 ) -> Result<(), AllocError> {
-    append(&mut desk.answers, b"sender")?;
+    desk.answers.push_str("sender")?;
     match Sender::new(id, start) {
         Ok(made) => {
-            add_number(&mut desk.answers, made.index() as u64)?;
+            write!(desk.answers, " {}", made.index())?;
             *sender = Some(made);
             Ok(())
         }
@@ -166,12 +186,10 @@ fn seal<P: Suite>(
     let Some(sender) = sender else {
         return Err(LineFault::BadLine);
     };
-    append(&mut desk.answers, b"seal")?;
-    match sender.seal(text, desk.offered()) {
-        Ok(n) => add_bytes(&mut desk.answers, front(&desk.output, n))?,
-        Err(refusal) => add_refusal(&mut desk.answers, refusal as u8)?,
-    }
-    Ok(())
+    desk.answers.push_str("seal")?;
+    let written = sender.seal(text, &mut desk.output);
+    let written = written.map_err(|refusal| refusal as u8);
+    Ok(add_written(&mut desk.answers, &desk.output, written)?)
 }
 
 fn share<P: Suite>(sender: &Option<Sender<P>>, index: u32, desk: &mut Desk) -> Result<(), LineFault>
@@ -180,12 +198,10 @@ fn share<P: Suite>(sender: &Option<Sender<P>>, index: u32, desk: &mut Desk) -> R
     let Some(sender) = sender else {
         return Err(LineFault::BadLine);
     };
-    append(&mut desk.answers, b"share")?;
-    match sender.share(index, desk.offered()) {
-        Ok(n) => add_bytes(&mut desk.answers, front(&desk.output, n))?,
-        Err(refusal) => add_refusal(&mut desk.answers, refusal as u8)?,
-    }
-    Ok(())
+    desk.answers.push_str("share")?;
+    let written = sender.share(index, &mut desk.output);
+    let written = written.map_err(|refusal| refusal as u8);
+    Ok(add_written(&mut desk.answers, &desk.output, written)?)
 }
 
 impl<P: Suite, S: Store<Id, Holding<P>>> Serves for Archive<S, P> {
@@ -203,8 +219,7 @@ impl<P: Suite, S: Store<Id, Holding<P>>> Serves for Archive<S, P> {
             Call::Floor => floor(&self.store, desk)?,
             Call::Advance(copy, target) => advance_bytes::<P>(&copy, target, desk)?,
         }
-        append(&mut desk.answers, b"\n")?;
-        Ok(())
+        Ok(desk.answers.push('\n')?)
     }
 }
 

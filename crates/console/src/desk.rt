@@ -1,5 +1,5 @@
 // Answers that are not written out yet, and the memory that calls are offered for their output.
-ghost use Rattle.std.specs.Prelude.{◌≡◌, ◌<◌, min, [], length, take, IfOk, vec_len, OnOk};
+ghost use Rattle.std.specs.Prelude.{◌≡◌, ◌<◌, [], take, IfOk, vec_len, string_bytes, string_len, OnOk};
 
 use std::alloc::{AllocError, Global};
 use std::io;
@@ -13,45 +13,43 @@ const PIECE: usize = 65_536;
 
 #[derive(Drop)]
 pub(crate) struct Desk {
-    pub(crate) answers: Vec<u8>,
+    pub(crate) heap: Global,
+    pub(crate) answers: String,
     pub(crate) output: Vec<u8>,
-    pub(crate) space: usize,
 }
 
 impl Desk {
     pub(crate) fn new(heap: Global) -> Result<Desk, AllocError>
-        ensures { IfOk result (λ d. (d.answers.items ≡ []) × (vec_len d.output ≡ 1048576) × (d.space ≡ 1048576)) }
+        ensures { IfOk result (λ d. (string_bytes d.answers ≡ []) × (vec_len d.output ≡ 1048576)) }
     {
         Ok(Desk {
-            answers: Vec::new(heap),
+            heap,
+            answers: String::new(heap),
             output: vec![in heap; 0; MOST_SPACE]?,
-            space: MOST_SPACE,
         })
     }
 
-    // What a call is offered for its output.
-    pub(crate) fn offered(&mut self) -> &mut [u8]
-        ensures { length result.now ≡ min self.old.space (vec_len self.old.output) }
+    // Sets how much a call is offered. There is room for the most from the start, so this takes no more memory.
+    pub(crate) fn offer(&mut self, space: usize) -> Result<(), AllocError>
+        ensures space { OnOk result (vec_len self.new.output ≡ space) }
+        ensures answers { self.new.answers ≡ self.old.answers }
     {
-        let n = self.space.min(self.output.len());
-        &mut self.output[0..n]
+        self.output.resize(space, 0)
     }
 
     pub(crate) fn write_out(&mut self, sink: &mut impl Write) -> io::Result<()>
-        ensures answers { OnOk result (self.new.answers.items ≡ []) }
+        ensures answers { OnOk result (string_bytes self.new.answers ≡ []) }
         ensures output { self.new.output ≡ self.old.output }
-        ensures space { self.new.space ≡ self.old.space }
     {
-        sink.write_all(&self.answers)?;
+        sink.write_all(self.answers.as_bytes())?;
         self.answers.clear();
         Ok(())
     }
 
     // Writes out once a piece is gathered.
     pub(crate) fn write_piece(&mut self, sink: &mut impl Write) -> io::Result<()>
-        ensures answers { OnOk result (vec_len self.new.answers < 65536) }
+        ensures answers { OnOk result (string_len self.new.answers < 65536) }
         ensures output { self.new.output ≡ self.old.output }
-        ensures space { self.new.space ≡ self.old.space }
     {
         if self.answers.len() < PIECE {
             return Ok(());
@@ -64,5 +62,5 @@ impl Desk {
 pub(crate) fn front(bytes: &[u8], n: usize) -> &[u8]
     ensures { result.now ≡ take n bytes.now }
 {
-    if n < bytes.len() { &bytes[0..n] } else { bytes }
+    bytes.get(..n).unwrap_or(bytes)
 }

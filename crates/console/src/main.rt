@@ -1,9 +1,8 @@
 // Reads a script of calls on standard input, and prints every answer.
 #![tactic(auto)]
 
-ghost use Rattle.std.specs.Prelude.{◌<◌, IfOk, OnSome};
-ghost use Rattle.std.specs.Option.{option_map};
-ghost use Rattle.script.specs.Script.{extent};
+ghost use Rattle.std.specs.Prelude.{IfOk, OnSome};
+ghost use Rattle.script.specs.Script.{IsShorter};
 
 mod answers;
 mod archive;
@@ -11,7 +10,6 @@ mod desk;
 mod printing;
 mod walk;
 
-use answers::{add_number, append};
 use archive::{Archive, NoArchive};
 use bench_suite::word::Word;
 use desk::{Desk, MOST_SPACE};
@@ -21,84 +19,56 @@ use ratchet::ids::Id;
 use ratchet::suite::Suite;
 use script::commands::Plan;
 use script::lines::Script;
-use std::alloc::{AllocError, Global};
 use std::io;
 use std::io::{Read, Write};
 use store::meaning::Store;
-use tables::slots::Slot;
 use tables::table::Table;
-use walk::walk;
-
-fn answer_archive<P: Suite, S: Store<Id, Holding<P>>>(
-    store: &S,
-    desk: &mut Desk,
-) -> Result<(), AllocError> {
-    append(&mut desk.answers, b"archive")?;
-    add_number(&mut desk.answers, store.free() as u64)?;
-    add_number(&mut desk.answers, store.floor() as u64)?;
-    append(&mut desk.answers, b"\n")
-}
-
-fn free_slots<P: Suite>(
-    heap: Global,
-    places: usize,
-) -> Result<Vec<Slot<Id, Holding<P>>>, AllocError> {
-    let mut slots = Vec::with_capacity(heap, places)?;
-    for _ in 0..places {
-        slots.push(None)?;
-    }
-    Ok(slots)
-}
+use walk::Session;
 
 // Answers over a new archive, up to the next one or the end.
 fn serve_over<P: Suite, S: Store<Id, Holding<P>> + Drop, W: Write>(
-    heap: Global,
     store: S,
-    script: &mut Script<'_>,
-    desk: &mut Desk,
-    sink: &mut W,
+    session: &mut Session<'_, W>,
 ) -> io::Result<Option<Plan>>
-    ensures { IfOk result (λ o. OnSome o (extent (option_map (λ x. x.now) script.new.rest) < extent (option_map (λ x. x.now) script.old.rest))) }
+    ensures { IfOk result (λ o. OnSome o (IsShorter session.new.script session.old.script)) }
 {
-    desk.space = MOST_SPACE;
-    answer_archive(&store, desk)?;
+    let desk = &mut session.desk;
+    desk.offer(MOST_SPACE)?;
+    writeln!(desk.answers, "archive {} {}", store.free(), store.floor())?;
     let mut archive = Archive {
         store,
         sender: None,
     };
-    walk(heap, script, &mut archive, desk, sink)
+    session.walk(&mut archive)
 }
 
 // Makes an archive, and answers up to the next one or the end.
-fn serve<P: Suite, W: Write>(
-    heap: Global,
-    plan: Plan,
-    script: &mut Script<'_>,
-    desk: &mut Desk,
-    sink: &mut W,
-) -> io::Result<Option<Plan>>
-    ensures { IfOk result (λ o. OnSome o (extent (option_map (λ x. x.now) script.new.rest) < extent (option_map (λ x. x.now) script.old.rest))) }
+fn serve<P: Suite, W: Write>(plan: Plan, session: &mut Session<'_, W>) -> io::Result<Option<Plan>>
+    ensures { IfOk result (λ o. OnSome o (IsShorter session.new.script session.old.script)) }
 {
-    let mut slots = free_slots::<P>(heap, plan.places)?;
+    let mut slots = vec![in session.desk.heap; None::<(Id, Holding<P>)>; plan.places]?;
     let store = FloorLayer {
         below: Table::over(&mut slots),
         floor: plan.floor,
     };
-    serve_over(heap, store, script, desk, sink)
+    serve_over(store, session)
 }
 
-fn run<W: Write>(heap: Global, text: &[u8], sink: &mut W) -> io::Result<()> {
-    let mut script = Script::new(text);
-    let mut desk = Desk::new(heap)?;
-    let mut plan = walk(heap, &mut script, &mut NoArchive, &mut desk, sink)?;
+fn run<W: Write>(session: &mut Session<'_, W>) -> io::Result<()> {
+    let mut plan = session.walk(&mut NoArchive)?;
     while let Some(p) = plan {
-        plan = serve::<Word, W>(heap, p, &mut script, &mut desk, sink)?;
+        plan = serve::<Word, W>(p, session)?;
     }
-    desk.write_out(sink)
+    session.desk.write_out(&mut session.sink)
 }
 
 fn main(rt: HostRuntime) -> io::Result<()> {
-    let mut text = Vec::new(rt.alloc());
+    let heap = rt.alloc();
+    let mut text = Vec::new(heap);
     rt.stdin().read_to_end(&mut text)?;
-    run(rt.alloc(), &text, &mut rt.stdout())
+    run(&mut Session {
+        script: Script::new(&text),
+        desk: Desk::new(heap)?,
+        sink: rt.stdout(),
+    })
 }

@@ -1,9 +1,8 @@
 -- Bytes cut at the first separator, from where that stands.
-use Rattle.std.proofs.Common.{◌≡◌, ℕ, zero, suc, ◌+◌, ◌-◌, ◌<◌, ◌≤◌, eqb, List, [], ◌∷◌, length, get_or, take, drop, Some, None, Option, sym, refl, ap, ◌∙◌, arith}
+use Rattle.std.proofs.Common.{◌≡◌, ℕ, zero, suc, ◌+◌, ◌-◌, ◌<◌, List, [], ◌∷◌, length, get_or, take, drop, Some, None, sym, refl, ap, ◌∙◌, arith}
 use Rattle.std.proofs.lemmas.List.{take_rest}
-use Rattle.std.proofs.lemmas.Bool.{cond-true, cond-false, cond_both, eq-eqb, ne_eqb}
+use Rattle.std.proofs.lemmas.Bool.{cond-true, cond-false, eq-eqb, ne_eqb}
 use Rattle.script.specs.Words.{upto, behind}
-use Rattle.script.specs.Script.{extent}
 
 -- no separator s stands before the place r
 abbrev Clear : ℕ → ℕ → List ℕ → Type 0
@@ -12,39 +11,24 @@ Clear s r bs = (k : ℕ) → k < r → get_or bs k 0 ≡ s → ⊥
 later : (s r b : ℕ) (bs : List ℕ) → Clear s (suc r) (b ∷ bs) → Clear s r bs
 later s r b bs h k lt e = h (suc k) (omega arith) e
 
-front : (s r : ℕ) (bs : List ℕ) → r ≤ length bs → Clear s r bs → (r < length bs → get_or bs r 0 ≡ s) → upto s bs ≡ take r bs
-front s zero [] le h f = refl
-front s (suc r) [] le h f = absurd (omega arith)
-front s zero (b ∷ bs) le h f = cond-true _ _ _ (eq-eqb b s (f (omega arith)))
-front s (suc r) (b ∷ bs) le h f =
-    cond-false _ _ _ (ne_eqb b s (h 0 (omega arith)))
-    ∙ ap (λ cs. b ∷ cs) (front s r bs (omega arith) (later s r b bs h) (λ lt. f (omega arith)))
-
-back : (s r : ℕ) (bs : List ℕ) → r < length bs → Clear s r bs → get_or bs r 0 ≡ s → behind s bs ≡ Some (drop (suc r) bs)
-back s r [] lt h f = absurd (omega arith)
-back s zero (b ∷ bs) lt h f = cond-true _ _ _ (eq-eqb b s f)
-back s (suc r) (b ∷ bs) lt h f = cond-false _ _ _ (ne_eqb b s (h 0 (omega arith))) ∙ back s r bs (omega arith) (later s r b bs h) f
-
-none : (s : ℕ) (bs : List ℕ) → Clear s (length bs) bs → behind s bs ≡ None
-none s [] h = refl
-none s (b ∷ bs) h = cond-false _ _ _ (ne_eqb b s (h 0 (omega arith))) ∙ none s bs (later s (length bs) b bs h)
+cut : (s r : ℕ) (bs : List ℕ) → r < length bs → Clear s r bs → get_or bs r 0 ≡ s → (take r bs ≡ upto s bs) × (behind s bs ≡ Some (drop (suc r) bs))
+cut s r [] lt h f = absurd (omega arith)
+cut s zero (b ∷ bs) lt h f = let e = eq-eqb b s f in (sym (cond-true _ _ _ e), cond-true _ _ _ e)
+cut s (suc r) (b ∷ bs) lt h f =
+    let e = ne_eqb b s (h 0 (omega arith)) in
+    let t = cut s r bs (omega arith) (later s r b bs h) f in
+    (ap (λ cs. b ∷ cs) t.0 ∙ sym (cond-false _ _ _ e), cond-false _ _ _ e ∙ t.1)
 
 -- the same, as the code has the two parts
-pub front_part : (s r : ℕ) (bs : List ℕ) → r ≤ length bs → Clear s r bs → (r < length bs → get_or bs r 0 ≡ s) → take (r - 0) bs ≡ upto s bs
-front_part s r bs le h f = let e : r - 0 ≡ r = omega arith in ap (λ n. take n bs) e ∙ sym (front s r bs le h f)
+pub cut_at : (s r : ℕ) (bs : List ℕ) → r < length bs → Clear s r bs → get_or bs r 0 ≡ s → (take r bs ≡ upto s bs) × (behind s bs ≡ Some (take (length bs - (r + 1)) (drop (r + 1) bs)))
+cut_at s r bs lt h f =
+    let t = cut s r bs lt h f in
+    let e : suc r ≡ r + 1 = omega arith in
+    (t.0, t.1 ∙ ap Some (ap (λ n. drop n bs) e ∙ sym (take_rest bs (r + 1))))
 
-pub back_part : (s r : ℕ) (bs : List ℕ) → r < length bs → Clear s r bs → (r < length bs → get_or bs r 0 ≡ s) → Some (take (length bs - (r + 1)) (drop (r + 1) bs)) ≡ behind s bs
-back_part s r bs lt h f =
-    let e : r + 1 ≡ suc r = omega arith in
-    ap Some (take_rest bs (r + 1) ∙ ap (λ n. drop n bs) e) ∙ sym (back s r bs lt h (f lt))
-
-pub no_part : (s r : ℕ) (bs : List ℕ) → length bs ≤ r → Clear s r bs → None ≡ behind s bs
-no_part s r bs le h = sym (none s bs (λ k lt. h k (omega arith)))
-
--- what stands behind is less
-pub behind_less : (s : ℕ) (bs : List ℕ) → extent (behind s bs) < extent (Some bs)
-behind_less s [] = omega arith
-behind_less s (b ∷ bs) = cond_both (eqb b s) (Some bs) (behind s bs) (λ o. extent o < extent (Some (b ∷ bs))) (λ _. omega arith) (λ _. let h = behind_less s bs in omega arith)
-
-pub line_less : (b : Option (List ℕ)) (bs : List ℕ) → b ≡ behind 10 bs → extent b < extent (Some bs)
-line_less b bs f = rw f (behind_less 10 bs)
+pub uncut : (s : ℕ) (bs : List ℕ) → Clear s (length bs) bs → (behind s bs ≡ None) × (upto s bs ≡ bs)
+uncut s [] h = (refl, refl)
+uncut s (b ∷ bs) h =
+    let e = ne_eqb b s (h 0 (omega arith)) in
+    let t = uncut s bs (later s (length bs) b bs h) in
+    (cond-false _ _ _ e ∙ t.0, cond-false _ _ _ e ∙ ap (λ cs. b ∷ cs) t.1)

@@ -1,31 +1,35 @@
--- What the next digit does to a number that is read up to a limit.
-use Rattle.std.proofs.Common.{◌≡◌, ℕ, ◌+◌, ◌<◌, ◌≤◌, List, [], ◌∷◌, length, get_or, drop, Some, None, Option, sym, refl, ap, ◌∙◌, arith}
-use Rattle.std.proofs.lemmas.List.{at_drop_more, at_drop_all}
-use Rattle.std.proofs.lemmas.Bool.{cond-true, le-leb}
-use Rattle.std.proofs.lemmas.Bool.Decides.{nat_tests}
-use Rattle.script.specs.Words.{digit, digits, extended, at_most}
+-- A word that `parse` reads, with no sign and no zero before other digits, is how the number is written.
+use Rattle.std.proofs.Common.{◌≡◌, ℕ, suc, zero, ◌^◌, ◌<◌, List, Ok, Err, decimal, Result, sym, refl, ap, ◌∙◌, arith, MatchOption, ◌≢◌}
+use Rattle.std.proofs.lemmas.Fmt.{decimal-digits_value, decimal_digit, first_decimal, parse-decimal, IsAscii-decimal}
+use Rattle.std.proofs.lemmas.Str.{IsUtf8-from_ascii}
+use Rattle.std.proofs.lemmas.Str.Parse.{IsNumeralModel, numerals_by_value, tells_digits, parse_plain}
+use Rattle.std.specs.Result.{result_ok}
+use Rattle.std.specs.Str.{IsUtf8}
+use Rattle.std.specs.Str.Parse.{AllDigits, ParsesUnsigned, digits_value}
+use Rattle.script.specs.Words.{IsPlain}
 
--- a number above the limit stays above it
-grows : (m v : ℕ) (d : Option ℕ) → at_most m (Some v) ≡ None → at_most m (extended v d) ≡ None
-grows m v (Some d) h = grind (arith, nat_tests)
-grows m v None h = refl
+own : IsNumeralModel (AllDigits 10) (digits_value 10)
+own = numerals_by_value (AllDigits 10) tells_digits
 
-beyond : (m : ℕ) (o : Option ℕ) (cs : List ℕ) → at_most m o ≡ None → at_most m (digits o cs) ≡ None
-beyond m None cs h = refl
-beyond m (Some v) [] h = h
-beyond m (Some v) (c ∷ cs) h = beyond m (extended v (digit c)) cs (grows m v (digit c) h)
+plain_decimal : (n : ℕ) → n < 2 ^ 64 → IsPlain (decimal n)
+plain_decimal zero lt = rw (decimal_digit 0 (omega arith)) ((λ e. omega (arith, e)), (λ _. refl))
+plain_decimal (suc n) lt = let h = first_decimal (suc n) (omega arith) lt in ((λ e. omega (arith, h, e)), (λ e. absurd (omega (arith, h, e))))
 
-pub within : (m n : ℕ) (o : Option ℕ) → Some n ≡ at_most m o → (o ≡ Some n) × (n ≤ m)
-within m n (Some v) h = grind (arith, nat_tests)
-within m n None h = grind arith
+pub not_plain : (w : List ℕ) → (IsPlain w → ⊥) → (n : ℕ) → n < 2 ^ 32 → w ≢ decimal n
+not_plain w h n lt is = h (rw is (plain_decimal n (omega arith)))
 
-pub no_more : (m v i : ℕ) (w : List ℕ) → i < length w → None ≡ at_most m (extended v (digit (get_or w i 0))) → at_most m (digits (Some v) (drop i w)) ≡ None
-no_more m v i w lt h = at_drop_more (λ cs. at_most m (digits (Some v) cs)) w i 0 lt ∙ beyond m (extended v (digit (get_or w i 0))) (drop (i + 1) w) (sym h)
+pub not_text : (w : List ℕ) → (IsUtf8 w → ⊥) → (n : ℕ) → n < 2 ^ 32 → w ≢ decimal n
+not_text w h n lt is = h (rw is (IsUtf8-from_ascii (decimal n) (IsAscii-decimal n (omega arith))))
 
-pub one_more : (m v n i : ℕ) (w : List ℕ) → i < length w → Some n ≡ at_most m (extended v (digit (get_or w i 0))) → (at_most m (digits (Some v) (drop i w)) ≡ at_most m (digits (Some n) (drop (i + 1) w))) × (n ≤ m)
-one_more m v n i w lt h =
-    let e = within m n (extended v (digit (get_or w i 0))) h in
-    (at_drop_more (λ cs. at_most m (digits (Some v) cs)) w i 0 lt ∙ ap (λ o. at_most m (digits o (drop (i + 1) w))) e.0, e.1)
+parsed : {E : Type 0} (w : List ℕ) (r : Result ℕ E) → IsPlain w → ParsesUnsigned 32 10 w r → MatchOption (result_ok r) ((n : ℕ) → n < 2 ^ 32 → w ≢ decimal n) (λ n. w ≡ decimal n)
+parsed {E} w (Ok n) p h =
+    let t = parse_plain own {E = E} 32 w (Ok n) h p.0 in
+    let small : digits_value 10 w < 2 ^ 64 = omega (arith, t.0.2) in
+    sym (decimal-digits_value own w t.0.0 t.0.1 p.1 small) ∙ ap decimal (sym t.1)
+parsed {E} w (Err e) p h = λ n lt is.
+    let wrong = parse-decimal {E = E} 32 n w (Err e) lt (omega arith) is h in
+    let z : ◌≡◌ {A = ℕ} 0 1 = cc in
+    omega arith
 
-pub all_read : (m v i : ℕ) (w : List ℕ) → length w ≤ i → v ≤ m → at_most m (digits (Some v) (drop i w)) ≡ Some v
-all_read m v i w le h = at_drop_all (λ cs. at_most m (digits (Some v) cs)) w i le ∙ cond-true _ _ _ (le-leb v m h)
+pub parsed_text : {E : Type 0} (w t : List ℕ) (r : Result ℕ E) → t ≡ w → IsPlain w → ParsesUnsigned 32 10 t r → MatchOption (result_ok r) ((n : ℕ) → n < 2 ^ 32 → w ≢ decimal n) (λ n. w ≡ decimal n)
+parsed_text w t r e p h = parsed w r p (rw (sym e) h)

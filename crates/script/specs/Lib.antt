@@ -1,4 +1,5 @@
 pub mod Commands
 pub mod Script
+pub mod Unread
 pub mod Verbs
 pub mod Words

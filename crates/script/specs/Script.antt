@@ -1,5 +1,6 @@
 -- A script as its lines.
-use Rattle.std.specs.Prelude.{ℕ, suc, List, length, Some, None, Option}
+use Rattle.std.specs.Prelude.{◌≡◌, ℕ, suc, ◌+◌, ◌-◌, ◌^◌, ◌<◌, min, List, length, Some, None, Option, MatchOption, OnSome}
+use Rattle.script.specs.Unread.{Unread}
 use Rattle.script.specs.Words.{upto, behind}
 
 -- the first line of what is left of a script
@@ -16,3 +17,14 @@ later_lines (Some text) = behind 10 text
 abbrev pub extent : Option (List ℕ) → ℕ
 extent None = 0
 extent (Some text) = suc (length text)
+
+-- less is left
+abbrev pub IsShorter : Unread → Unread → Type 0
+IsShorter new old = extent new.rest < extent old.rest
+
+-- the first line of what was left is given out and counted, and what stands behind it is left, which is less
+pub record GivesLine (old : Unread) (line : Option (List ℕ)) (new : Unread) : Type 0 where
+  pub line_is : line ≡ first_line old.rest
+  pub rest_is : new.rest ≡ later_lines old.rest
+  pub falls : OnSome line (IsShorter new old)
+  pub counted : MatchOption line (new.lines ≡ old.lines) (λ _. new.lines ≡ min (old.lines + 1) (2 ^ 64 - 1))

@@ -1,5 +1,5 @@
 -- How numbers and bytes are written in a script.
-use Rattle.std.specs.Prelude.{ℕ, ◌+◌, ◌-◌, ◌*◌, ◌/◌, ◌%◌, Bool, true, false, cond, not, ◌&&◌, List, [], ◌∷◌, length, Some, None, Option, ◌==◌, nat_le, nat_lt}
+use Rattle.std.specs.Prelude.{◌≡◌, ℕ, ◌+◌, ◌-◌, ◌*◌, ◌/◌, ◌%◌, Bool, false, cond, ◌&&◌, List, [], ◌∷◌, length, slice_index, ◌≢◌, Some, None, Option, ◌==◌, nat_le, nat_lt}
 
 -- what stands before the first separator, or all
 abbrev pub upto : ℕ → List ℕ → List ℕ
@@ -11,34 +11,9 @@ abbrev pub behind : ℕ → List ℕ → Option (List ℕ)
 behind s [] = None
 behind s (c ∷ cs) = cond (c == s) (Some cs) (behind s cs)
 
--- the value of a decimal digit
-abbrev pub digit : ℕ → Option ℕ
-digit c = cond (nat_le 48 c && nat_le c 57) (Some (c - 48)) None
-
--- the number of more digits behind the number v
-abbrev pub extended : ℕ → Option ℕ → Option ℕ
-extended v (Some d) = Some (v * 10 + d)
-extended v None = None
-
--- the number that digits write; none where a character is no digit
-abbrev pub digits : Option ℕ → List ℕ → Option ℕ
-digits None cs = None
-digits (Some v) [] = Some v
-digits (Some v) (c ∷ cs) = digits (extended v (digit c)) cs
-
--- a number is written with a digit at least, and begins with 0 only if that is all
-abbrev pub plain : List ℕ → Bool
-plain [] = false
-plain (c ∷ []) = true
-plain (c ∷ (d ∷ cs)) = not (c == 48)
-
-abbrev pub at_most : ℕ → Option ℕ → Option ℕ
-at_most most None = None
-at_most most (Some n) = cond (nat_le n most) (Some n) None
-
--- the number in a word, if it is one and not above the limit
-abbrev pub numeral : ℕ → List ℕ → Option ℕ
-numeral most w = cond (plain w) (at_most most (digits (Some 0) w)) None
+-- a decimal number has no sign, and begins with 0 only if that is all
+abbrev pub IsPlain : List ℕ → Type 0
+IsPlain w = (slice_index w 0 ≢ 43) × (slice_index w 0 ≡ 48 → length w ≡ 1)
 
 -- the value of a hex digit, in lower case
 abbrev pub nibble : ℕ → Option ℕ

@@ -2,11 +2,10 @@
 ghost use Rattle.std.specs.Prelude.{◌≡◌, IfOk, codes, decimal};
 ghost use Rattle.script.specs.Commands.{spaced, id_word, plan_words, archive_words, call_line, command_line};
 ghost use Rattle.script.specs.Verbs.{verb_word};
-ghost use Rattle.script.specs.Words.{hex_word};
 
 use crate::fault::LineFault;
-use crate::verbs::{Verb, is_word, read_verb};
-use crate::words::{cut_at_first, number, read_bytes};
+use crate::verbs::{Verb, read_verb};
+use crate::words::{number, read_bytes, split_once};
 use copy_bytes::reading::read_id;
 use ratchet::ids::Id;
 use std::alloc::Global;
@@ -42,28 +41,21 @@ pub enum Command {
     Call(Call),
 }
 
+// The number that a word is, below 2^32.
 fn read_index(word: &[u8]) -> Result<u32, LineFault>
     ensures { IfOk result (λ n. word.now ≡ decimal n) }
 {
-    match number(word, 4_294_967_295) {
-        Some(n) => Ok(n as u32),
-        None => Err(LineFault::BadLine),
-    }
+    number(word).ok_or(LineFault::BadLine)
 }
 
+// The same, for places, sightings and space.
 fn read_count(word: &[u8]) -> Result<usize, LineFault>
     ensures { IfOk result (λ n. word.now ≡ decimal n) }
 {
-    match number(word, 1_048_576) {
-        Some(n) => Ok(n as usize),
-        None => Err(LineFault::BadLine),
+    match read_index(word)? {
+        n @ 0..=1_048_576 => Ok(n as usize),
+        _ => Err(LineFault::BadLine),
     }
-}
-
-fn read_hex(heap: Global, word: &[u8]) -> Result<Vec<u8>, LineFault>
-    ensures { IfOk result (λ v. word.now ≡ hex_word v.items) }
-{
-    read_bytes(heap, word)
 }
 
 // An id is 64 hex digits.
@@ -71,21 +63,14 @@ fn read_name(heap: Global, word: &[u8]) -> Result<Id, LineFault>
     ensures { IfOk result (λ k. word.now ≡ id_word k) }
 {
     let bytes = read_bytes(heap, word)?;
-    match read_id(&bytes) {
-        Ok(id) => Ok(id),
-        Err(_) => Err(LineFault::BadLine),
-    }
+    read_id(&bytes).map_err(|_| LineFault::BadLine)
 }
 
 // The two parts of what stands behind a command's word.
 fn two_words(rest: &[u8]) -> Result<(&[u8], &[u8]), LineFault>
     ensures { IfOk result (λ both. rest.now ≡ spaced both.0.now both.1.now) }
 {
-    let cut = cut_at_first(rest, b' ');
-    match cut.back {
-        Some(back) => Ok((cut.front, back)),
-        None => Err(LineFault::BadLine),
-    }
+    split_once(rest, b' ').ok_or(LineFault::BadLine)
 }
 
 fn read_plan(rest: &[u8]) -> Result<Plan, LineFault>
@@ -104,43 +89,38 @@ fn read_plan(rest: &[u8]) -> Result<Plan, LineFault>
 fn read_archive(rest: &[u8]) -> Result<Plan, LineFault>
     ensures { IfOk result (λ p. rest.now ≡ archive_words p) }
 {
-    let (suite, rest) = two_words(rest)?;
-    let (store, rest) = two_words(rest)?;
-    if is_word(suite, b"bench") && is_word(store, b"slots") {
-        read_plan(rest)
-    } else {
-        Err(LineFault::BadLine)
-    }
+    let plan = rest.strip_prefix(b"bench slots ");
+    read_plan(plan.ok_or(LineFault::BadLine)?)
 }
 
 fn read_sender(heap: Global, rest: &[u8]) -> Result<Call, LineFault>
     ensures { IfOk result (λ call. spaced (codes "sender") rest.now ≡ call_line call) }
 {
     let (id, start) = two_words(rest)?;
-    Ok(Call::Sender(read_name(heap, id)?, read_hex(heap, start)?))
+    Ok(Call::Sender(read_name(heap, id)?, read_bytes(heap, start)?))
 }
 
 fn read_open(heap: Global, rest: &[u8]) -> Result<Call, LineFault>
     ensures { IfOk result (λ call. spaced (codes "open") rest.now ≡ call_line call) }
 {
     let (id, message) = two_words(rest)?;
-    Ok(Call::Open(read_name(heap, id)?, read_hex(heap, message)?))
+    Ok(Call::Open(read_name(heap, id)?, read_bytes(heap, message)?))
 }
 
 fn read_advance(heap: Global, rest: &[u8]) -> Result<Call, LineFault>
     ensures { IfOk result (λ call. spaced (codes "advance") rest.now ≡ call_line call) }
 {
     let (copy, target) = two_words(rest)?;
-    Ok(Call::Advance(read_hex(heap, copy)?, read_index(target)?))
+    Ok(Call::Advance(read_bytes(heap, copy)?, read_index(target)?))
 }
 
 fn read_next(heap: Global, word: &[u8]) -> Result<Call, LineFault>
     ensures { IfOk result (λ call. spaced (codes "next") word.now ≡ call_line call) }
 {
-    if is_word(word, b"-") {
-        return Ok(Call::Next(None));
+    match word {
+        b"-" => Ok(Call::Next(None)),
+        _ => Ok(Call::Next(Some(read_name(heap, word)?))),
     }
-    Ok(Call::Next(Some(read_name(heap, word)?)))
 }
 
 // A command that is one word.
@@ -159,9 +139,9 @@ fn read_call(heap: Global, verb: Verb, rest: &[u8]) -> Result<Call, LineFault>
 {
     match verb {
         Verb::Sender => read_sender(heap, rest),
-        Verb::Seal => Ok(Call::Seal(read_hex(heap, rest)?)),
+        Verb::Seal => Ok(Call::Seal(read_bytes(heap, rest)?)),
         Verb::Share => Ok(Call::Share(read_index(rest)?)),
-        Verb::Take => Ok(Call::Take(read_hex(heap, rest)?)),
+        Verb::Take => Ok(Call::Take(read_bytes(heap, rest)?)),
         Verb::Dispute => Ok(Call::Dispute(read_name(heap, rest)?)),
         Verb::Look => Ok(Call::Look(read_name(heap, rest)?)),
         Verb::Next => read_next(heap, rest),
@@ -185,12 +165,11 @@ fn read_with(heap: Global, verb: Verb, rest: &[u8]) -> Result<Command, LineFault
 pub fn read_command(heap: Global, line: &[u8]) -> Result<Command, LineFault>
     ensures { IfOk result (λ c. line.now ≡ command_line c) }
 {
-    let cut = cut_at_first(line, b' ');
-    let Some(verb) = read_verb(cut.front) else {
-        return Err(LineFault::BadLine);
-    };
-    match cut.back {
-        Some(rest) => read_with(heap, verb, rest),
-        None => read_lone(verb),
+    match split_once(line, b' ') {
+        Some((word, rest)) => {
+            let verb = read_verb(word).ok_or(LineFault::BadLine)?;
+            read_with(heap, verb, rest)
+        }
+        None => read_lone(read_verb(line).ok_or(LineFault::BadLine)?),
     }
 }

@@ -1,7 +1,7 @@
 ghost use Rattle.std.specs.Prelude.{◌≡◌};
 ghost use Rattle.script.specs.declared.fault.LineFault.TheVariants.{NoMemory};
 
-use std::alloc::AllocError;
+use std::alloc::{AllocError, AllocFailed};
 
 // Why a line is not read.
 #[derive(Clone, Copy)]
@@ -14,6 +14,14 @@ impl From<AllocError> for LineFault {
     ghost from_gives = { λ _ f. f ≡ NoMemory };
 
     fn from(_e: AllocError) -> LineFault {
+        LineFault::NoMemory
+    }
+}
+
+impl<T: Drop> From<AllocFailed<T>> for LineFault {
+    ghost from_gives = { λ _ f. f ≡ NoMemory };
+
+    fn from(_e: AllocFailed<T>) -> LineFault {
         LineFault::NoMemory
     }
 }

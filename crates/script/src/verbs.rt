@@ -1,5 +1,5 @@
 // The word that a command begins with.
-ghost use Rattle.std.specs.Prelude.{◌≡◌, Decides, MatchOption, ◌≢◌};
+ghost use Rattle.std.specs.Prelude.{◌≡◌, MatchOption, ◌≢◌};
 ghost use Rattle.script.specs.declared.verbs.Verb.{Verb as AnyVerb};
 ghost use Rattle.script.specs.Verbs.{verb_word};
 
@@ -20,54 +20,24 @@ pub(crate) enum Verb {
     Floor,
 }
 
-pub(crate) fn is_word(word: &[u8], text: &[u8]) -> bool
-    ensures { Decides result (word.now ≡ text.now) }
-{
-    word == text
-}
-
 // The verb that a word is; no verb has another word.
 pub(crate) fn read_verb(word: &[u8]) -> Option<Verb>
     ensures { MatchOption result ((v : AnyVerb) → word.now ≢ verb_word v) (λ v. word.now ≡ verb_word v) }
 {
-    if is_word(word, b"archive") {
-        return Some(Verb::Archive);
+    match word {
+        b"archive" => Some(Verb::Archive),
+        b"space" => Some(Verb::Space),
+        b"sender" => Some(Verb::Sender),
+        b"seal" => Some(Verb::Seal),
+        b"share" => Some(Verb::Share),
+        b"take" => Some(Verb::Take),
+        b"dispute" => Some(Verb::Dispute),
+        b"look" => Some(Verb::Look),
+        b"next" => Some(Verb::Next),
+        b"open" => Some(Verb::Open),
+        b"advance" => Some(Verb::Advance),
+        b"free" => Some(Verb::Free),
+        b"floor" => Some(Verb::Floor),
+        _ => None,
     }
-    if is_word(word, b"space") {
-        return Some(Verb::Space);
-    }
-    if is_word(word, b"sender") {
-        return Some(Verb::Sender);
-    }
-    if is_word(word, b"seal") {
-        return Some(Verb::Seal);
-    }
-    if is_word(word, b"share") {
-        return Some(Verb::Share);
-    }
-    if is_word(word, b"take") {
-        return Some(Verb::Take);
-    }
-    if is_word(word, b"dispute") {
-        return Some(Verb::Dispute);
-    }
-    if is_word(word, b"look") {
-        return Some(Verb::Look);
-    }
-    if is_word(word, b"next") {
-        return Some(Verb::Next);
-    }
-    if is_word(word, b"open") {
-        return Some(Verb::Open);
-    }
-    if is_word(word, b"advance") {
-        return Some(Verb::Advance);
-    }
-    if is_word(word, b"free") {
-        return Some(Verb::Free);
-    }
-    if is_word(word, b"floor") {
-        return Some(Verb::Floor);
-    }
-    None
 }
