@@ -5,4 +5,3 @@ pub mod Maps
 pub mod Meaning
 pub mod Sightings
 pub mod Joining
-pub mod Ordering
