@@ -3,6 +3,7 @@ ghost use Rattle.store.specs.declared.refusal.StoreRefusal.TheVariants.{NoPlace}
 ghost use Rattle.store.specs.Meaning.{answer};
 ghost use Rattle.intake.specs.Merging.{room_for, merged};
 
+use store::entries::Entries;
 use store::meaning::{Key, Store, Value};
 use store::refusal::StoreRefusal;
 
@@ -11,15 +12,13 @@ fn has_room<K: Key, V: Value, A: Store<K, V>, B: Store<K, V>>(dst: &A, src: &B) 
     ensures { result ≡ room_for K.rank (A.means dst.now) (B.means src.now).entries }
 {
     let mut left = dst.free();
-    let mut last = None;
-    while let Some(e) = src.next(&last) {
-        if dst.look(e.0).is_none() {
+    for (key, _) in Entries::of(src) {
+        if dst.look(key).is_none() {
             if left == 0 {
                 return false;
             }
             left -= 1;
         }
-        last = Some(e.0);
     }
     true
 }
@@ -37,10 +36,8 @@ pub fn merge<K: Key, V: Value, A: Store<K, V>, B: Store<K, V>>(
     if !has_room(dst, src) {
         return Err(StoreRefusal::NoPlace);
     }
-    let mut last = None;
-    while let Some(e) = src.next(&last) {
-        let _ = dst.take(e.0, e.1);
-        last = Some(e.0);
+    for (key, value) in Entries::of(src) {
+        let _ = dst.take(key, value);
     }
     Ok(())
 }

@@ -10,7 +10,7 @@ use Rattle.ratchet.specs.declared.ids.Id.{Id}
 use Rattle.ratchet.specs.Ids.{id_number}
 
 -- of two numbers with a last digit below w the front decides, and then the digit
-pub by_digit : (w a b c d : ℕ) → b < w → d < w → ordering_then (nat_cmp a c) (nat_cmp b d) ≡ nat_cmp (a * w + b) (c * w + d)
+by_digit : (w a b c d : ℕ) → b < w → d < w → ordering_then (nat_cmp a c) (nat_cmp b d) ≡ nat_cmp (a * w + b) (c * w + d)
 by_digit w a b c d p q =
     let up : a < c → a * w + b < c * w + d = λ l. omega (arith, mul-le-mul_right {m = suc a} {n = c} w l) in
     let down : c < a → c * w + d < a * w + b = λ l. omega (arith, mul-le-mul_right {m = suc c} {n = a} w l) in
@@ -39,3 +39,9 @@ id_order_lem a b =
     ∙ then_then (nat_cmp (a.w0 * w + a.w1) (b.w0 * w + b.w1)) c2 c3
     ∙ ap (λ r. ordering_then r c3) (by_digit w (a.w0 * w + a.w1) a.w2 (b.w0 * w + b.w1) b.w2 a.fits2 b.fits2)
     ∙ by_digit w ((a.w0 * w + a.w1) * w + a.w2) a.w3 ((b.w0 * w + b.w1) * w + b.w2) b.w3 a.fits3 b.fits3
+
+-- the same with an index below w behind each id
+pub id_then_lem : (a b : Id) (w i j : ℕ) → i < w → j < w →
+    ordering_then (ordering_then (nat_cmp a.w0 b.w0) (ordering_then (nat_cmp a.w1 b.w1) (ordering_then (nat_cmp a.w2 b.w2) (nat_cmp a.w3 b.w3)))) (nat_cmp i j)
+    ≡ nat_cmp (id_number a * w + i) (id_number b * w + j)
+id_then_lem a b w i j p q = ap (λ r. ordering_then r (nat_cmp i j)) (id_order_lem a b) ∙ by_digit w (id_number a) i (id_number b) j p q

@@ -2,7 +2,7 @@
 use Rattle.std.proofs.Common.{◌≡◌, ℕ, suc, ◌<◌, ◌≤◌, cond, eqb, ltb, List, [], ◌∷◌, length, is_some, option_map, Some, None, Option, sym, refl, ap, subst, inl, inr, arith}
 use Rattle.std.proofs.lemmas.Bool.Decides.{nat_tests}
 use Rattle.std.proofs.lemmas.Bool.{cases_Bool, cases_order, lt-ltb, le-ltb, eq-eqb, ne_eqb}
-use Rattle.store.specs.Maps.{Rising, found, beyond, put, each, first}
+use Rattle.store.specs.Maps.{Rising, found, beyond, put, each, first, in_order}
 
 -- a value joined to another, if there is one
 abbrev pub more : {V : Type 0} → (V → V → V) → Option V → V → V
@@ -46,6 +46,10 @@ module _ {K V : Type 0} (rank : K → ℕ) where
         let ih = found_put (suc (rank e.0)) m k v q r.1 in
         let low : rank q ≤ rank e.0 → found rank m q ≡ None = λ le. found_low (suc (rank e.0)) m q r.1 (omega arith) in
         grind (arith, nat_tests)
+
+  pub in_order_rising : (es : List (K × V)) → Rising rank 0 (in_order rank es)
+  in_order_rising [] = tt
+  in_order_rising (e ∷ es) = rising_put (λ _ w. w) 0 (in_order rank es) e.0 e.1 (omega arith) (in_order_rising es)
 
   pub beyond_all : (n : ℕ) (m : List (K × V)) (k : K) → Rising rank n m → rank k < n → beyond rank m (Some k) ≡ m
   beyond_all n [] k r lt = refl
@@ -94,7 +98,3 @@ module _ {K V : Type 0} (rank : K → ℕ) where
   pub next_less : (m : List (K × V)) (o : Option K) (e : K × V) → Rising rank 0 m →
       Some e ≡ first (beyond rank m o) → length (beyond rank m (Some e.0)) < length (beyond rank m o)
   next_less m o e r h = let l = ap length (next_rest m o e r h) in omega arith
-
-pub first_none : {A : Type 0} (s : List A) → None ≡ first s → s ≡ []
-first_none [] h = refl
-first_none (x ∷ s) h = absurd (let z : ◌≡◌ {A = ℕ} 0 1 = cc in omega arith)

@@ -5,5 +5,4 @@ pub mod Laws
 pub mod Maps
 pub mod Meaning
 pub mod Numbers
-pub mod Ordering
 pub mod Sightings

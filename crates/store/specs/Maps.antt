@@ -25,6 +25,11 @@ module _ {K V : Type 0} (rank : K → ℕ) where
       cond (nat_lt (rank k) (rank e.0)) ((k, v) ∷ e ∷ m)
       (cond (rank e.0 == rank k) ((k, join e.1 v) ∷ m) (e ∷ put join m k v))
 
+  -- entries in the order of their keys: of two with one key the first counts
+  abbrev pub in_order : List (K × V) → List (K × V)
+  in_order [] = []
+  in_order (e ∷ es) = put (λ _ w. w) (in_order es) e.0 e.1
+
 -- every value changed, each under its key
 abbrev pub each : {K V : Type 0} → (V → V) → List (K × V) → List (K × V)
 each f [] = []

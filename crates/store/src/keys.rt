@@ -1,7 +1,7 @@
+ghost use Rattle.std.specs.Prelude.{◌^◌};
 ghost use Rattle.ratchet.specs.Ids.{id_number};
 ghost use Rattle.store.specs.Keys.{spot_number};
-ghost use Rattle.ratchet.proofs.Ordering.{id_order_lem};
-ghost use Rattle.store.specs.Ordering.{spot_order};
+ghost use Rattle.ratchet.proofs.Ordering.{id_order_lem, id_then_lem};
 
 use crate::meaning::Key;
 use crate::spot::Spot;
@@ -26,5 +26,5 @@ impl Key for Spot {
 
     ghost rank = { spot_number };
 
-    ghost ordered = { spot_order };
+    ghost ordered = { λ a b. id_then_lem a.id b.id (2 ^ 32) a.index b.index a.fits b.fits };
 }

@@ -6,11 +6,10 @@ use Rattle.std.proofs.lemmas.List.{take-replicate}
 use Rattle.std.proofs.lemmas.List.Sums.{sum_by-cons}
 use Rattle.std.proofs.lemmas.Bool.Decides.{nat_tests}
 use Rattle.std.proofs.lemmas.Bool.{cases_Bool}
-use Rattle.store.specs.Maps.{Rising, found, beyond, put, first}
+use Rattle.store.specs.Maps.{Rising, found, beyond, put, first, in_order}
 use Rattle.store.specs.Meaning.{Meaning, empty}
-use Rattle.tables.specs.Slots.{in_order, slots_mean}
-use Rattle.tables.specs.Sorting.{in_order_rising}
-use Rattle.store.proofs.Lookups.{more, found_put}
+use Rattle.tables.specs.Slots.{slots_mean}
+use Rattle.store.proofs.Lookups.{more, found_put, in_order_rising}
 
 module _ {K V : Type 0} (rank : K → ℕ) where
   last : (o : Option V) (v : V) → more (λ _ w. w) o v ≡ v

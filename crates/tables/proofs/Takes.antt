@@ -9,11 +9,10 @@ use Rattle.std.proofs.lemmas.List.Sums.{sum_by-set, sum_by-cons}
 use Rattle.store.specs.declared.refusal.StoreRefusal.{StoreRefusal}
 use Rattle.store.specs.declared.refusal.StoreRefusal.TheVariants.{NoPlace}
 use Rattle.store.specs.Laws.{ValueLaws}
-use Rattle.store.specs.Maps.{Rising, found, put}
+use Rattle.store.specs.Maps.{Rising, found, put, in_order}
 use Rattle.store.specs.Meaning.{answer, room, taken}
-use Rattle.store.proofs.Lookups.{is_some_mapped}
-use Rattle.tables.specs.Slots.{in_order, slots_mean}
-use Rattle.tables.specs.Sorting.{in_order_rising}
+use Rattle.store.proofs.Lookups.{is_some_mapped, in_order_rising}
+use Rattle.tables.specs.Slots.{slots_mean}
 use Rattle.tables.proofs.Rows.{found_first, of_both}
 
 abbrev entries : {K V : Type 0} → List (Option (K × V)) → List (K × V)

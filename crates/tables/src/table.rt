@@ -1,8 +1,8 @@
-ghost use Rattle.std.specs.Prelude.{◌≡◌, ◌≤◌, min, length};
+ghost use Rattle.std.specs.Prelude.{◌≡◌, ◌≤◌, min, length, flat_map, option_to_list};
 ghost use Rattle.store.specs.Lasting.{by_name};
 ghost use Rattle.store.specs.Meaning.{empty};
 ghost use Rattle.tables.specs.Slots.{slots_mean};
-ghost use Rattle.tables.specs.Sorting.{slots_ascend};
+ghost use Rattle.store.proofs.Lookups.{in_order_rising};
 
 use crate::slots::{Slot, count_free, entry_of, lowest_above, take_in};
 use store::meaning::{Key, Store, Value};
@@ -23,7 +23,7 @@ impl<K: Key, V: Value> Store<K, V> for Table<'_, K, V> {
 
     ghost unaltered = { λ s t. t.slots.now ≡ s.slots.now };
 
-    ghost ascends = { λ s. slots_ascend K.Key.rank s.slots.now };
+    ghost ascends = { λ s. in_order_rising K.Key.rank (flat_map option_to_list s.slots.now) };
 
     fn take(&mut self, key: K, value: V) -> Result<(), StoreRefusal> {
         take_in(self.slots, key, value)
@@ -53,6 +53,7 @@ impl<'a, K: Key, V: Value> Table<'a, K, V> {
         ensures lent { length slots.old ≤ K.MOST → result.slots.ghost_name ≡ slots.entry.ghost_name }
     {
         slots.fill(None);
+        // A part would be another loan, so what fits stays whole.
         if slots.len() <= K::MOST {
             Table { slots }
         } else {
