@@ -1,5 +1,6 @@
 -- What is sealed opens.
-use Rattle.std.proofs.Common.{◌≡◌, ℕ, ◌+◌, ◌-◌, ◌≤◌, List, Some, Ok, Option, refl, ap, ◌∙◌, arith}
+use Rattle.std.proofs.Common.{◌≡◌, ℕ, ◌+◌, ◌-◌, ◌≤◌, List, length, take, drop, Some, Ok, Err, Option, Result, refl, ap, ◌∙◌, arith}
+use Rattle.std.proofs.lemmas.List.{take_at}
 use Rattle.std.proofs.lemmas.Slice.Eq.{bytes_eq-Decides}
 use Rattle.std.proofs.lemmas.Bool.{cond-true, le-leb}
 use Rattle.ratchet.specs.declared.copies.Advanced.{Advanced}
@@ -13,8 +14,11 @@ use Rattle.ratchet.proofs.Steps.{steps_add, steps_index}
 use Rattle.message.specs.Frame.{body, Framed, framed}
 use Rattle.message.specs.Seal.{sealed}
 use Rattle.message.proofs.Frames.{read_back}
+use Rattle.copy_bytes.specs.Output.{filled}
+use Rattle.opening.specs.declared.unseal.Opened.{Opened}
+use Rattle.opening.specs.declared.unseal.OpenRefusal.{OpenRefusal}
 use Rattle.opening.specs.Laws.{Opens}
-use Rattle.opening.specs.Open.{held_at, texted, checked, by_copy, by_frame, unsealed}
+use Rattle.opening.specs.Open.{Unsealed, told, text_over, open_output, held_at, texted, checked, by_copy, by_frame, unsealed}
 
 module _ {P : Type 0} (m : Meaning P) (shown : Option (Holding P)) (bs : List ℕ) where
   pub unsealed_is : (f : Framed) (a : Advanced P) → framed m bs ≡ Ok f → held_at m shown f.index ≡ Ok a → unsealed m shown bs ≡ checked m f a
@@ -47,3 +51,11 @@ opens {P} m laws start i k text origin le small short bytes =
     unsealed_is m shown (sealed m d text) f a read (ap (held_at m shown) e ∙ held_there m start origin i k le)
     ∙ cond-true _ _ _ ((bytes_eq-Decides tag tag).1 refl) ∙ ap (texted m f a) (laws.deciphers (parts d) text short bytes)
     ∙ ap (λ (x : ℕ). Ok (record { text = text; index = x; hashes = cost i k })) e
+
+-- the text of a scratch, put into an output
+pub put_text : (u : Result Unsealed OpenRefusal) (t : Opened) (old scratch out new : List ℕ) → Ok t ≡ told u → scratch ≡ text_over u old
+    → new ≡ filled (take t.size scratch) out → new ≡ open_output u out
+put_text (Err e) t old scratch out new et es ef = cc
+put_text (Ok u) t old scratch out new et es ef =
+    let is : t ≡ record { size = length u.text; index = u.index; hashes = u.hashes } = cc in
+    ef ∙ ap (λ xs. filled xs out) (rw (es, is) (take_at u.text (drop (length u.text) old) (length u.text) refl))
