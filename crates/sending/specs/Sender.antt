@@ -22,6 +22,14 @@ pub record Session (P : Type 0) : Type 0 where
   pub start : SessionCopy P
   pub used : ℕ
 
+-- the length of bytes that were written, or the refusal of an output that is too small
+abbrev pub answered_or : {E : Type 0} → E → List ℕ → List ℕ → Result ℕ E
+answered_or small xs out = result_map_both (λ n. n) (λ _. small) (answered xs out)
+
+-- what an output holds after a call for some bytes, by the call's answer
+abbrev pub written : {E : Type 0} → Result ℕ E → List ℕ → List ℕ → List ℕ
+written answer xs out = cond (is_ok answer) (laid xs out) out
+
 module _ {P : Type 0} where
   -- a message was sealed at every index
   abbrev pub spent : Session P → Bool
@@ -47,11 +55,10 @@ module _ {P : Type 0} where
     -- a long text is refused before a spent sender, and that before an output without space
     abbrev pub seal_answer : Session P → List ℕ → List ℕ → Result ℕ SealRefusal
     seal_answer s text out =
-        cond (nat_le (length text) 4096)
-        (cond (spent s) (Err Spent) (result_map_both (λ n. n) (λ _. NoSpace) (answered (message s text) out))) (Err TextTooLong)
+        cond (nat_le (length text) 4096) (cond (spent s) (Err Spent) (answered_or NoSpace (message s text) out)) (Err TextTooLong)
 
     abbrev pub seal_output : Session P → List ℕ → List ℕ → List ℕ
-    seal_output s text out = cond (is_ok (seal_answer s text out)) (laid (message s text) out) out
+    seal_output s text out = written (seal_answer s text out) (message s text) out
 
     -- one more index is used where a message was written, and else nothing changes
     abbrev pub after_seal : Session P → List ℕ → List ℕ → Session P
@@ -63,8 +70,7 @@ module _ {P : Type 0} where
     shared s index = copy_bytes m Share (record { id = s.id; copy = reached s index })
 
     abbrev pub share_answer : Session P → ℕ → List ℕ → Result ℕ ShareRefusal
-    share_answer s index out =
-        cond (nat_le index (current_index s)) (result_map_both (λ n. n) (λ _. NoRoom) (answered (shared s index) out)) (Err Ahead)
+    share_answer s index out = cond (nat_le index (current_index s)) (answered_or NoRoom (shared s index) out) (Err Ahead)
 
     abbrev pub share_output : Session P → ℕ → List ℕ → List ℕ
-    share_output s index out = cond (is_ok (share_answer s index out)) (laid (shared s index) out) out
+    share_output s index out = written (share_answer s index out) (shared s index) out

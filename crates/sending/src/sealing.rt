@@ -2,14 +2,15 @@ ghost use Rattle.std.specs.Prelude.{◌≡◌, ◌+◌, ◌≤◌, ◌++◌, len
 ghost use Rattle.copy_bytes.specs.Output.{answered, filled};
 ghost use Rattle.copy_bytes.specs.Placed.{Put};
 ghost use Rattle.message.specs.Frame.{head};
-ghost use Rattle.message.specs.Seal.{tagged, cipher_sealed, sealed};
+ghost use Rattle.message.specs.Seal.{tagged, sealed};
 ghost use Rattle.message.specs.Varint.{varint};
 
 use copy_bytes::output::SpaceRefusal;
 use ratchet::copies::SessionCopy;
 use ratchet::suite::Suite;
 
-// As copy_bytes has it for itself: a public one would have to test the place, and so could fail.
+// Writes at a place, and answers the place behind it.
+// Like copy_bytes's own: one for both would be public, so would have to test the place, and could fail.
 #[tactic(auto, using(copy_bytes::proofs::Places::placed_part))]
 fn put_at(bytes: &[u8], out: &mut [u8], at: usize) -> usize
     requires { at + length bytes.now ≤ length out.old }
