@@ -58,7 +58,7 @@ fn read_count(word: &[u8]) -> Result<usize, LineFault>
     }
 }
 
-// An id is 64 hex digits.
+// An id is 64 hex digits. The heap stays a parameter here and below: a struct of it alone makes no line shorter.
 fn read_name(heap: Global, word: &[u8]) -> Result<Id, LineFault>
     ensures { IfOk result (λ k. word.now ≡ id_word k) }
 {
