@@ -29,7 +29,7 @@ impl fmt::Display for Name {
     }
 }
 
-// A part, which is never wider than 1,024 bytes, as a word.
+// A part, which is never wider than 1,024 bytes, as a word. `fmt` has no heap, so its bytes lie in an array.
 #[derive(Clone, Copy)]
 struct Part<P>(P);
 

@@ -30,7 +30,7 @@ fn cut_line(text: &[u8]) -> (&[u8], Option<&[u8]>)
 
 impl<'a> Model for Script<'a> {
     ghost use Rattle.std.specs.Option.{option_map};
-    ghost use Rattle.script.specs.Unread.{Unread};
+    ghost use Rattle.script.specs.Script.{Unread};
 
     ghost Value = { Unread };
 

@@ -1,6 +1,6 @@
 use Rattle.std.proofs.Common.{vec_items, ap, ◌∙◌}
 use Rattle.copy_bytes.specs.CopyBytes.{read_id}
-use Rattle.script.proofs.Rereads.{written_id}
+use Rattle.script.proofs.Ids.{written_id}
 use Rattle.script.proofs.commands.read_name.Goals as goal
 
 pub returns : goal.returns
