@@ -10,7 +10,7 @@ use std::marker::Model;
 
 // What is left to read, none once the last line was given out, and how many lines were given out.
 // The library's `split` with `enumerate` does not stand in: the type of its closure has no name to keep in a field.
-#[derive(Drop)]
+#[derive(Clone, Drop)]
 pub struct Script<'a> {
     rest: Option<&'a [u8]>,
     lines: u64,
