@@ -1,19 +1,16 @@
 -- What `{:02x}` writes of each byte is the bytes in hex.
-use Rattle.std.proofs.Common.{Fits, w8, ◌≡◌, ℕ, ◌+◌, ◌-◌, ◌/◌, ◌%◌, ◌^◌, ◌<◌, false, List, [], ◌∷◌, ◌++◌, append-nil, length, get_or, take, refl, sym, ap, ◌∙◌, arith}
+use Rattle.std.proofs.Common.{Fits, w8, ◌≡◌, ℕ, ◌+◌, ◌-◌, ◌/◌, ◌%◌, ◌^◌, ◌<◌, false, List, [], ◌∷◌, ◌++◌, append-nil, length, get_or, take, sym, ap, ◌∙◌, arith}
 use Rattle.std.proofs.lemmas.Bool.Decides.{nat_tests}
 use Rattle.std.proofs.lemmas.Fmt.{hex_byte}
 use Rattle.std.proofs.lemmas.Bool.{cond-true, le-leb}
 use Rattle.std.proofs.lemmas.List.{take_more, drop_all}
 use Rattle.std.specs.Fmt.{digit_glyph, digits, padded_integral, format_spec}
+use Rattle.script.proofs.Hex.{hex-append}
 use Rattle.script.specs.Words.{hex, hex_digit}
 use Rattle.copy_bytes.specs.Output.{filled}
 
 glyph : (n : ℕ) → digit_glyph false n ≡ hex_digit n
 glyph n = grind (arith, nat_tests)
-
-hex-append : (bs cs : List ℕ) → hex (bs ++ cs) ≡ hex bs ++ hex cs
-hex-append [] cs = refl
-hex-append (b ∷ bs) cs = ap (λ ds. hex_digit (b / 16) ∷ (hex_digit (b % 16) ∷ ds)) (hex-append bs cs)
 
 abbrev pub padded : ℕ → List ℕ
 padded b = padded_integral (format_spec 32 0 4 2 (2 ^ 64 - 1)) false [] (digits 16 false b)

@@ -7,14 +7,12 @@ ghost use Rattle.script.specs.declared.fault.LineFault.TheVariants.{BadLine};
 
 use crate::answers::{Hex, add_refusal};
 use crate::desk::{Desk, front};
-use crate::printing::{Held, Name};
+use crate::printing::{Export, Name, Shown};
 use crate::walk::Serves;
-use copy_bytes::named::{Accepted, NamedCopy, Version};
+use copy_bytes::named::{Accepted, NamedCopy};
 use copy_bytes::reading::read_copy;
-use copy_bytes::writing::write_copy;
 use intake::taking::take_bytes;
 use opening::open::open;
-use opening::unseal::Opened;
 use ratchet::advance::advance;
 use ratchet::copies::Holding;
 use ratchet::ids::Id;
@@ -31,16 +29,31 @@ pub(crate) struct Archive<S, P: Suite> {
     pub(crate) sender: Option<Sender<P>>,
 }
 
+// A call's word, and the number of its refusal.
+fn add_taken(out: &mut String, word: &str, taken: Result<(), u8>) -> Result<(), AllocError> {
+    out.push_str(word)?;
+    match taken {
+        Ok(()) => Ok(()),
+        Err(number) => add_refusal(out, number),
+    }
+}
+
+// A call's word, and what it wrote to the output or the number of its refusal.
+fn add_written(desk: &mut Desk, word: &str, written: Result<usize, u8>) -> Result<(), AllocError> {
+    desk.answers.push_str(word)?;
+    match written {
+        Ok(n) => write!(desk.answers, " {}", Hex(front(&desk.output, n))),
+        Err(number) => add_refusal(&mut desk.answers, number),
+    }
+}
+
 fn take<P: Suite, S: Store<Id, Holding<P>>>(
     store: &mut S,
     copy: &[u8],
     desk: &mut Desk,
 ) -> Result<(), AllocError> {
-    desk.answers.push_str("take")?;
-    match take_bytes(store, copy) {
-        Ok(()) => Ok(()),
-        Err(refusal) => add_refusal(&mut desk.answers, refusal as u8),
-    }
+    let taken = take_bytes(store, copy).map_err(|refusal| refusal as u8);
+    add_taken(&mut desk.answers, "take", taken)
 }
 
 fn dispute<P: Suite, S: Store<Id, Holding<P>>>(
@@ -48,11 +61,10 @@ fn dispute<P: Suite, S: Store<Id, Holding<P>>>(
     id: Id,
     desk: &mut Desk,
 ) -> Result<(), AllocError> {
-    desk.answers.push_str("dispute")?;
-    match store.take(id, Holding::Disputed) {
-        Ok(()) => Ok(()),
-        Err(refusal) => add_refusal(&mut desk.answers, refusal as u8),
-    }
+    let taken = store
+        .take(id, Holding::Disputed)
+        .map_err(|refusal| refusal as u8);
+    add_taken(&mut desk.answers, "dispute", taken)
 }
 
 fn look<P: Suite, S: Store<Id, Holding<P>>>(
@@ -63,7 +75,7 @@ fn look<P: Suite, S: Store<Id, Holding<P>>>(
     ensures { OnOk result (string_bytes desk.new.answers ≡ string_bytes desk.old.answers ++ look_line P.suite (looked id_number (S.means store.now) id)) }
 {
     match store.look(id) {
-        Some(holding) => write!(desk.answers, "look{}", Held(holding)),
+        Some(holding) => write!(desk.answers, "look{}", Shown(holding)),
         None => write!(desk.answers, "look none"),
     }
 }
@@ -76,7 +88,7 @@ fn next<P: Suite, S: Store<Id, Holding<P>>>(
     ensures { OnOk result (string_bytes desk.new.answers ≡ string_bytes desk.old.answers ++ next_line P.suite (nexted id_number (S.means store.now) last)) }
 {
     match store.next(&last) {
-        Some((id, holding)) => write!(desk.answers, "next {}{}", Name(id), Held(holding)),
+        Some((id, holding)) => write!(desk.answers, "next {}{}", Name(id), Shown(holding)),
         None => write!(desk.answers, "next none"),
     }
 }
@@ -89,15 +101,9 @@ fn open_message<P: Suite, S: Store<Id, Holding<P>>>(
 ) -> Result<(), AllocError> {
     desk.answers.push_str("open")?;
     match open(store, id, message, &mut desk.output) {
-        Ok(
-            Opened {
-                size,
-                index,
-                hashes,
-            },
-        ) => {
-            let text = Hex(front(&desk.output, size));
-            write!(desk.answers, " {index} {hashes} {text}")
+        Ok(opened) => {
+            let text = Hex(front(&desk.output, opened.size));
+            write!(desk.answers, " {} {} {text}", opened.index, opened.hashes)
         }
         Err(refusal) => add_refusal(&mut desk.answers, refusal as u8),
     }
@@ -128,33 +134,12 @@ fn moved<P: Suite>(bytes: &[u8], target: u32) -> Result<(u32, NamedCopy<P>), u8>
     ))
 }
 
-// The space limits no advance: its copy has room of its own, for the widest parts.
+// The space limits no advance, which writes no output.
 fn advance_bytes<P: Suite>(bytes: &[u8], target: u32, desk: &mut Desk) -> Result<(), AllocError> {
     desk.answers.push_str("advance")?;
-    let mut copy = [0; 4133];
     match moved::<P>(bytes, target) {
-        Ok((hashes, named)) => {
-            write!(desk.answers, " {hashes}")?;
-            let written = write_copy(Version::Export, &named, &mut copy);
-            add_written(
-                &mut desk.answers,
-                &copy,
-                written.map_err(|refusal| refusal as u8),
-            )
-        }
+        Ok((hashes, named)) => write!(desk.answers, " {hashes} {}", Export(named)),
         Err(number) => add_refusal(&mut desk.answers, number),
-    }
-}
-
-// What a call wrote, or the number of its refusal.
-fn add_written(
-    out: &mut String,
-    output: &[u8],
-    written: Result<usize, u8>,
-) -> Result<(), AllocError> {
-    match written {
-        Ok(n) => write!(out, " {}", Hex(front(output, n))),
-        Err(number) => add_refusal(out, number),
     }
 }
 
@@ -186,10 +171,8 @@ fn seal<P: Suite>(
     let Some(sender) = sender else {
         return Err(LineFault::BadLine);
     };
-    desk.answers.push_str("seal")?;
     let written = sender.seal(text, &mut desk.output);
-    let written = written.map_err(|refusal| refusal as u8);
-    Ok(add_written(&mut desk.answers, &desk.output, written)?)
+    Ok(add_written(desk, "seal", written.map_err(|refusal| refusal as u8))?)
 }
 
 fn share<P: Suite>(sender: &Option<Sender<P>>, index: u32, desk: &mut Desk) -> Result<(), LineFault>
@@ -198,10 +181,8 @@ fn share<P: Suite>(sender: &Option<Sender<P>>, index: u32, desk: &mut Desk) -> R
     let Some(sender) = sender else {
         return Err(LineFault::BadLine);
     };
-    desk.answers.push_str("share")?;
     let written = sender.share(index, &mut desk.output);
-    let written = written.map_err(|refusal| refusal as u8);
-    Ok(add_written(&mut desk.answers, &desk.output, written)?)
+    Ok(add_written(desk, "share", written.map_err(|refusal| refusal as u8))?)
 }
 
 impl<P: Suite, S: Store<Id, Holding<P>>> Serves for Archive<S, P> {

@@ -3,10 +3,14 @@ ghost use Rattle.std.specs.Prelude.{Some};
 ghost use Rattle.ratchet.specs.Ids.{id_bytes};
 ghost use Rattle.console.specs.Shown.{shown_holding};
 ghost use Rattle.script.specs.Words.{hex_word};
+ghost use Rattle.copy_bytes.specs.CopyBytes.{copy_bytes};
+ghost use Rattle.copy_bytes.specs.declared.named.Version.TheVariants.{Export};
 
 use crate::answers::Hex;
-use copy_bytes::writing::write_id;
-use ratchet::copies::{Holding, SessionCopy};
+use crate::desk::front;
+use copy_bytes::named::{NamedCopy, Version};
+use copy_bytes::writing::{write_copy, write_id};
+use ratchet::copies::Holding;
 use ratchet::ids::Id;
 use ratchet::suite::Suite;
 use std::fmt;
@@ -25,7 +29,7 @@ impl fmt::Display for Name {
     }
 }
 
-// A part, which is never wider than 1,024 bytes, as a word.
+// A part, which is never wider than 1,024 bytes, as a word. `fmt` has no heap, so its bytes lie in an array.
 #[derive(Clone, Copy)]
 struct Part<P>(P);
 
@@ -42,26 +46,34 @@ impl<P: Suite> fmt::Display for Part<P> {
 
 // What is held of a session, each word with a space before it.
 #[derive(Clone, Copy)]
-pub(crate) struct Held<P>(pub(crate) Holding<P>);
+pub(crate) struct Shown<P>(pub(crate) Holding<P>);
 
-impl<P: Suite> fmt::Display for Held<P> {
-    ghost output = { λ held. Some (shown_holding P.suite held.0) };
+impl<P: Suite> fmt::Display for Shown<P> {
+    ghost output = { λ shown. Some (shown_holding P.suite shown.0) };
 
     fn fmt<W: fmt::Write>(&self, f: &mut fmt::Formatter<W>) -> fmt::Result {
         match self.0 {
-            Holding::Held(
-                SessionCopy {
-                    index,
-                    r0,
-                    r1,
-                    r2,
-                    r3,
-                },
-            ) => {
-                write!(f, " {index} {} {}", Part(r0), Part(r1))?;
-                write!(f, " {} {}", Part(r2), Part(r3))
+            Holding::Held(copy) => {
+                write!(f, " {} {} {}", copy.index, Part(copy.r0), Part(copy.r1))?;
+                write!(f, " {} {}", Part(copy.r2), Part(copy.r3))
             }
             Holding::Disputed => write!(f, " disputed"),
+        }
+    }
+}
+
+// The bytes of a copy with the export byte, as a word. There is room for the widest parts.
+#[derive(Clone, Copy)]
+pub(crate) struct Export<P>(pub(crate) NamedCopy<P>);
+
+impl<P: Suite> fmt::Display for Export<P> {
+    ghost output = { λ export. Some (hex_word (copy_bytes P.suite Export export.0)) };
+
+    fn fmt<W: fmt::Write>(&self, f: &mut fmt::Formatter<W>) -> fmt::Result {
+        let mut bytes = [0; 4133];
+        match write_copy(Version::Export, &self.0, &mut bytes) {
+            Ok(n) => Hex(front(&bytes, n)).fmt(f),
+            Err(_) => Err(fmt::Error),
         }
     }
 }

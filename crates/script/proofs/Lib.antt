@@ -1,4 +1,4 @@
 pub mod Cuts
 pub mod Hex
+pub mod Ids
 pub mod Numbers
-pub mod Rereads

@@ -1,5 +1,4 @@
 pub mod Commands
 pub mod Script
-pub mod Unread
 pub mod Verbs
 pub mod Words

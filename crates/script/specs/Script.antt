@@ -1,7 +1,11 @@
 -- A script as its lines.
 use Rattle.std.specs.Prelude.{◌≡◌, ℕ, suc, ◌+◌, ◌-◌, ◌^◌, ◌<◌, min, List, length, Some, None, Option, MatchOption, OnSome}
-use Rattle.script.specs.Unread.{Unread}
 use Rattle.script.specs.Words.{upto, behind}
+
+-- what is left of a script, none once its last line was given out, and how many lines were given out
+pub record Unread : Type 0 where
+  pub rest : Option (List ℕ)
+  pub lines : ℕ
 
 -- the first line of what is left of a script
 abbrev pub first_line : Option (List ℕ) → Option (List ℕ)

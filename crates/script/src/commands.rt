@@ -2,6 +2,7 @@
 ghost use Rattle.std.specs.Prelude.{◌≡◌, IfOk, codes, decimal};
 ghost use Rattle.script.specs.Commands.{spaced, id_word, plan_words, archive_words, call_line, command_line};
 ghost use Rattle.script.specs.Verbs.{verb_word};
+ghost use Rattle.script.specs.Words.{hex_word};
 
 use crate::fault::LineFault;
 use crate::verbs::{Verb, read_verb};
@@ -58,7 +59,7 @@ fn read_count(word: &[u8]) -> Result<usize, LineFault>
     }
 }
 
-// An id is 64 hex digits.
+// An id is 64 hex digits. The heap stays a parameter here and below: a struct of it alone makes no line shorter.
 fn read_name(heap: Global, word: &[u8]) -> Result<Id, LineFault>
     ensures { IfOk result (λ k. word.now ≡ id_word k) }
 {
@@ -93,18 +94,12 @@ fn read_archive(rest: &[u8]) -> Result<Plan, LineFault>
     read_plan(plan.ok_or(LineFault::BadLine)?)
 }
 
-fn read_sender(heap: Global, rest: &[u8]) -> Result<Call, LineFault>
-    ensures { IfOk result (λ call. spaced (codes "sender") rest.now ≡ call_line call) }
+// An id, and bytes behind it.
+fn read_named(heap: Global, rest: &[u8]) -> Result<(Id, Vec<u8>), LineFault>
+    ensures { IfOk result (λ both. rest.now ≡ spaced (id_word both.0) (hex_word both.1.items)) }
 {
-    let (id, start) = two_words(rest)?;
-    Ok(Call::Sender(read_name(heap, id)?, read_bytes(heap, start)?))
-}
-
-fn read_open(heap: Global, rest: &[u8]) -> Result<Call, LineFault>
-    ensures { IfOk result (λ call. spaced (codes "open") rest.now ≡ call_line call) }
-{
-    let (id, message) = two_words(rest)?;
-    Ok(Call::Open(read_name(heap, id)?, read_bytes(heap, message)?))
+    let (id, bytes) = two_words(rest)?;
+    Ok((read_name(heap, id)?, read_bytes(heap, bytes)?))
 }
 
 fn read_advance(heap: Global, rest: &[u8]) -> Result<Call, LineFault>
@@ -138,14 +133,20 @@ fn read_call(heap: Global, verb: Verb, rest: &[u8]) -> Result<Call, LineFault>
     ensures { IfOk result (λ call. spaced (verb_word verb) rest.now ≡ call_line call) }
 {
     match verb {
-        Verb::Sender => read_sender(heap, rest),
+        Verb::Sender => {
+            let (id, start) = read_named(heap, rest)?;
+            Ok(Call::Sender(id, start))
+        }
         Verb::Seal => Ok(Call::Seal(read_bytes(heap, rest)?)),
         Verb::Share => Ok(Call::Share(read_index(rest)?)),
         Verb::Take => Ok(Call::Take(read_bytes(heap, rest)?)),
         Verb::Dispute => Ok(Call::Dispute(read_name(heap, rest)?)),
         Verb::Look => Ok(Call::Look(read_name(heap, rest)?)),
         Verb::Next => read_next(heap, rest),
-        Verb::Open => read_open(heap, rest),
+        Verb::Open => {
+            let (id, message) = read_named(heap, rest)?;
+            Ok(Call::Open(id, message))
+        }
         Verb::Advance => read_advance(heap, rest),
         _ => Err(LineFault::BadLine),
     }

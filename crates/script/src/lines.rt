@@ -9,7 +9,8 @@ use crate::words::split_once;
 use std::marker::Model;
 
 // What is left to read, none once the last line was given out, and how many lines were given out.
-#[derive(Drop)]
+// The library's `split` with `enumerate` does not stand in: the type of its closure has no name to keep in a field.
+#[derive(Clone, Drop)]
 pub struct Script<'a> {
     rest: Option<&'a [u8]>,
     lines: u64,
@@ -29,7 +30,7 @@ fn cut_line(text: &[u8]) -> (&[u8], Option<&[u8]>)
 
 impl<'a> Model for Script<'a> {
     ghost use Rattle.std.specs.Option.{option_map};
-    ghost use Rattle.script.specs.Unread.{Unread};
+    ghost use Rattle.script.specs.Script.{Unread};
 
     ghost Value = { Unread };
 

@@ -1,8 +1,9 @@
 // The words of a line: what they are, and the numbers and bytes that they write.
-ghost use Rattle.std.specs.Prelude.{◌≡◌, ℕ, ◌<◌, ◌^◌, ◌∷◌, ◌++◌, length, Some, None, MatchOption, MatchResult, ◌≢◌, ◌↔◌, IsTrue, IfOk, slice_index, decimal};
+ghost use Rattle.std.specs.Prelude.{◌≡◌, ℕ, ◌<◌, ◌^◌, ◌/◌, ◌%◌, [], ◌∷◌, ◌++◌, length, Some, None, MatchOption, MatchResult, ◌≢◌, ◌↔◌, IsTrue, slice_index, decimal, List};
+ghost use Rattle.std.specs.List.{AllByRecursion};
+ghost use Rattle.ratchet.specs.Bytes.{Byte};
 ghost use Rattle.script.specs.declared.fault.LineFault.TheVariants.{BadLine};
-ghost use Rattle.script.specs.Words.{upto, behind};
-ghost use Rattle.script.specs.Words.{nibble, paired, pairs, bytes_of, hex_word, IsPlain};
+ghost use Rattle.script.specs.Words.{upto, behind, hex_digit, hex, hex_word};
 
 use crate::fault::LineFault;
 use std::alloc::Global;
@@ -26,7 +27,7 @@ pub(crate) fn split_once(bytes: &[u8], separator: u8) -> Option<(&[u8], &[u8])>
 
 // No sign, and no zero before other digits.
 fn is_plain(word: &[u8]) -> bool
-    ensures { IsTrue result ↔ IsPlain word.now }
+    ensures { IsTrue result ↔ ((slice_index word.now 0 ≢ 43) × (slice_index word.now 0 ≡ 48 → length word.now ≡ 1)) }
 {
     !matches!(word, [b'+', ..] | [b'0', _, ..])
 }
@@ -44,8 +45,9 @@ pub(crate) fn number(word: &[u8]) -> Option<u32>
     text.parse().ok()
 }
 
+// The number that a hex digit is, in lower case.
 fn nibble_of(c: u8) -> Option<u8>
-    ensures { result ≡ nibble c }
+    ensures { MatchOption result ((n : ℕ) → n < 16 → c ≢ hex_digit n) (λ n. (n < 16) × (c ≡ hex_digit n)) }
 {
     match c {
         b'0'..=b'9' => Some(c - b'0'),
@@ -55,18 +57,20 @@ fn nibble_of(c: u8) -> Option<u8>
 }
 
 fn byte_of(high: u8, low: u8) -> Option<u8>
-    ensures { result ≡ paired (nibble high) (nibble low) }
+    ensures { MatchOption result ((b : ℕ) → Byte b → high ≡ hex_digit (b / 16) → low ≢ hex_digit (b % 16)) (λ b. Byte b × (high ≡ hex_digit (b / 16)) × (low ≡ hex_digit (b % 16))) }
 {
     Some(nibble_of(high)? * 16 + nibble_of(low)?)
 }
 
 fn read_pairs(heap: Global, word: &[u8]) -> Result<Vec<u8>, LineFault>
-    ensures { MatchResult result (λ v. pairs word.now ≡ Some v.items) (λ e. (e ≡ BadLine → pairs word.now ≡ None)) }
+    ensures { MatchResult result (λ v. (word.now ≡ hex v.items) × AllByRecursion Byte v.items) (λ e. (e ≡ BadLine → (bs : List ℕ) → AllByRecursion Byte bs → word.now ≢ hex bs)) }
 {
     let mut read = Vec::new(heap);
     let mut rest = word;
     while let [high, low, tail @ ..] = rest {
-        let b = byte_of(*high, *low).ok_or(LineFault::BadLine)?;
+        let Some(b) = byte_of(*high, *low) else {
+            return Err(LineFault::BadLine);
+        };
         read.push(b)?;
         rest = tail;
     }
@@ -79,8 +83,7 @@ fn read_pairs(heap: Global, word: &[u8]) -> Result<Vec<u8>, LineFault>
 
 // The bytes that a word is, `-` for none.
 pub(crate) fn read_bytes(heap: Global, word: &[u8]) -> Result<Vec<u8>, LineFault>
-    ensures value { MatchResult result (λ v. bytes_of word.now ≡ Some v.items) (λ e. (e ≡ BadLine → bytes_of word.now ≡ None)) }
-    ensures word { IfOk result (λ v. word.now ≡ hex_word v.items) }
+    ensures { MatchResult result (λ v. (word.now ≡ hex_word v.items) × AllByRecursion Byte v.items) (λ e. (e ≡ BadLine → (bs : List ℕ) → AllByRecursion Byte bs → word.now ≢ hex_word bs)) }
 {
     match word {
         [] => Err(LineFault::BadLine),

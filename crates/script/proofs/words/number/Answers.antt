@@ -1,5 +1,5 @@
 use Rattle.std.proofs.Common.{rules}
-use Rattle.script.specs.Words.{IsPlain}
+use Rattle.script.proofs.Numbers.{IsPlain}
 use Rattle.script.proofs.Numbers.{not_plain, not_text, parsed_text}
 use Rattle.script.proofs.words.number.Goals as goal
 
