@@ -1,9 +1,8 @@
 // The words of the lines that are printed.
-ghost use Rattle.std.specs.Prelude.{◌≡◌, ◌++◌, Some, codes, decimal, string_bytes, OnOk};
+ghost use Rattle.std.specs.Prelude.{◌++◌, Some, codes, decimal};
 ghost use Rattle.std.specs.Fmt.{WritesOnOk};
 ghost use Rattle.script.specs.Words.{hex, hex_word};
 
-use std::alloc::AllocError;
 use std::fmt;
 
 fn write_pairs<W: fmt::Write>(bytes: &[u8], f: &mut fmt::Formatter<W>) -> fmt::Result
@@ -30,9 +29,22 @@ impl<'a> fmt::Display for Hex<'a> {
     }
 }
 
-// A refusal by its number.
-pub(crate) fn add_refusal(out: &mut String, number: u8) -> Result<(), AllocError>
-    ensures { OnOk result (string_bytes out.new ≡ string_bytes out.old ++ (codes " refused " ++ decimal number)) }
-{
-    write!(out, " refused {number}")
+// A refusal of any call, by its number.
+#[derive(Clone, Copy)]
+pub(crate) struct Refusal(u8);
+
+impl Refusal {
+    pub(crate) fn of<R: Into<u8>>(refusal: R) -> Refusal
+        ensures { R.converts refusal result.0 }
+    {
+        Refusal(refusal.into())
+    }
+}
+
+impl fmt::Display for Refusal {
+    ghost output = { λ refusal. Some (codes "refused " ++ decimal refusal.0) };
+
+    fn fmt<W: fmt::Write>(&self, f: &mut fmt::Formatter<W>) -> fmt::Result {
+        write!(f, "refused {}", self.0)
+    }
 }

@@ -5,7 +5,7 @@ ghost use Rattle.store.specs.Meaning.{looked, nexted};
 ghost use Rattle.console.specs.Lines.{look_line, next_line};
 ghost use Rattle.script.specs.declared.fault.LineFault.TheVariants.{BadLine};
 
-use crate::answers::{Hex, add_refusal};
+use crate::answers::{Hex, Refusal};
 use crate::desk::{Desk, front};
 use crate::printing::{Export, Name, Shown};
 use crate::walk::Serves;
@@ -29,21 +29,21 @@ pub(crate) struct Archive<S, P: Suite> {
     pub(crate) sender: Option<Sender<P>>,
 }
 
-// A call's word, and the number of its refusal.
-fn add_taken(out: &mut String, word: &str, taken: Result<(), u8>) -> Result<(), AllocError> {
+// A call's word, and its refusal.
+fn add_taken(out: &mut String, word: &str, taken: Result<(), Refusal>) -> Result<(), AllocError> {
     out.push_str(word)?;
     match taken {
         Ok(()) => Ok(()),
-        Err(number) => add_refusal(out, number),
+        Err(refusal) => write!(out, " {refusal}"),
     }
 }
 
-// A call's word, and what it wrote to the output or the number of its refusal.
-fn add_written(desk: &mut Desk, word: &str, written: Result<usize, u8>) -> Result<(), AllocError> {
+// A call's word, and what it wrote to the output or its refusal.
+fn add_written(desk: &mut Desk, word: &str, written: Result<usize, Refusal>) -> Result<(), AllocError> {
     desk.answers.push_str(word)?;
     match written {
         Ok(n) => write!(desk.answers, " {}", Hex(front(&desk.output, n))),
-        Err(number) => add_refusal(&mut desk.answers, number),
+        Err(refusal) => write!(desk.answers, " {refusal}"),
     }
 }
 
@@ -52,7 +52,7 @@ fn take<P: Suite, S: Store<Id, Holding<P>>>(
     copy: &[u8],
     desk: &mut Desk,
 ) -> Result<(), AllocError> {
-    let taken = take_bytes(store, copy).map_err(|refusal| refusal as u8);
+    let taken = take_bytes(store, copy).map_err(Refusal::of);
     add_taken(&mut desk.answers, "take", taken)
 }
 
@@ -61,9 +61,7 @@ fn dispute<P: Suite, S: Store<Id, Holding<P>>>(
     id: Id,
     desk: &mut Desk,
 ) -> Result<(), AllocError> {
-    let taken = store
-        .take(id, Holding::Disputed)
-        .map_err(|refusal| refusal as u8);
+    let taken = store.take(id, Holding::Disputed).map_err(Refusal::of);
     add_taken(&mut desk.answers, "dispute", taken)
 }
 
@@ -105,7 +103,7 @@ fn open_message<P: Suite, S: Store<Id, Holding<P>>>(
             let text = Hex(front(&desk.output, opened.size));
             write!(desk.answers, " {} {} {text}", opened.index, opened.hashes)
         }
-        Err(refusal) => add_refusal(&mut desk.answers, refusal as u8),
+        Err(refusal) => write!(desk.answers, " {}", Refusal::of(refusal)),
     }
 }
 
@@ -121,10 +119,10 @@ fn floor<P: Suite, S: Store<Id, Holding<P>>>(store: &S, desk: &mut Desk) -> Resu
     write!(desk.answers, "floor {}", store.floor())
 }
 
-// The copy at a target, and the hashes to it, or the number of a refusal.
-fn moved<P: Suite>(bytes: &[u8], target: u32) -> Result<(u32, NamedCopy<P>), u8> {
-    let named = read_copy(bytes, Accepted::ShareOrExport).map_err(|fault| fault as u8)?;
-    let there = advance(named.copy, target).map_err(|refusal| refusal as u8)?;
+// The hashes to a target, and the copy there.
+fn moved<P: Suite>(bytes: &[u8], target: u32) -> Result<(u32, NamedCopy<P>), Refusal> {
+    let named = read_copy(bytes, Accepted::ShareOrExport).map_err(Refusal::of)?;
+    let there = advance(named.copy, target).map_err(Refusal::of)?;
     Ok((
         there.hashes,
         NamedCopy {
@@ -139,7 +137,7 @@ fn advance_bytes<P: Suite>(bytes: &[u8], target: u32, desk: &mut Desk) -> Result
     desk.answers.push_str("advance")?;
     match moved::<P>(bytes, target) {
         Ok((hashes, named)) => write!(desk.answers, " {hashes} {}", Export(named)),
-        Err(number) => add_refusal(&mut desk.answers, number),
+        Err(refusal) => write!(desk.answers, " {refusal}"),
     }
 }
 
@@ -156,7 +154,7 @@ fn make_sender<P: Suite>(
             *sender = Some(made);
             Ok(())
         }
-        Err(fault) => add_refusal(&mut desk.answers, fault as u8),
+        Err(fault) => write!(desk.answers, " {}", Refusal::of(fault)),
     }
 }
 
@@ -172,7 +170,7 @@ fn seal<P: Suite>(
         return Err(LineFault::BadLine);
     };
     let written = sender.seal(text, &mut desk.output);
-    Ok(add_written(desk, "seal", written.map_err(|refusal| refusal as u8))?)
+    Ok(add_written(desk, "seal", written.map_err(Refusal::of))?)
 }
 
 fn share<P: Suite>(sender: &Option<Sender<P>>, index: u32, desk: &mut Desk) -> Result<(), LineFault>
@@ -182,7 +180,7 @@ fn share<P: Suite>(sender: &Option<Sender<P>>, index: u32, desk: &mut Desk) -> R
         return Err(LineFault::BadLine);
     };
     let written = sender.share(index, &mut desk.output);
-    Ok(add_written(desk, "share", written.map_err(|refusal| refusal as u8))?)
+    Ok(add_written(desk, "share", written.map_err(Refusal::of))?)
 }
 
 impl<P: Suite, S: Store<Id, Holding<P>>> Serves for Archive<S, P> {

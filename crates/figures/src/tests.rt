@@ -1,10 +1,11 @@
 // The worked figures once more, by the compiled code.
 use bench_suite::word::Word;
-use opening::unseal::unseal;
+use opening::unseal::{OpenRefusal, unseal};
 use ratchet::advance::advance;
 use ratchet::copies::{Holding, SessionCopy};
 use ratchet::holdings::join_holdings;
 use ratchet::ids::Id;
+use ratchet::suite::Suite;
 use sending::sender::Sender;
 use std::test::Fail;
 
@@ -30,31 +31,28 @@ const HASHES: [(u32, u32, u32); 6] = [
 ];
 
 #[test]
-fn advances(rt: HostRuntime) -> Result<(), Fail> {
+fn advances(rt: HostRuntime) {
     for row in HASHES.iter() {
-        match advance(zeros(row.0), row.1) {
-            Ok(there) => assert_eq!(rt; there.hashes, row.2),
-            Err(_) => return Err(Fail::new("refused")),
-        }
+        let hashes = advance(zeros(row.0), row.1).map(|there| there.hashes);
+        assert_eq!(rt; hashes, Ok(row.2));
     }
-    match advance(zeros(8), 7) {
-        Ok(_) => Err(Fail::new("accepted")),
-        Err(refusal) => {
-            assert_eq!(rt; refusal as u8, 21);
-            Ok(())
-        },
-    }
+    let refused = advance(zeros(8), 7).map(|there| there.hashes);
+    assert_eq!(rt; refused.map_err(u8::from), Err(21));
 }
 
 #[test]
-fn first_step(rt: HostRuntime) -> Result<(), Fail> {
-    match advance(zeros(0), 1) {
-        Ok(there) => {
-            assert_eq!(rt; there.copy.r3.value, 0x9E37_79B9_7F4A_7C16);
-            Ok(())
-        },
-        Err(_) => Err(Fail::new("refused")),
-    }
+fn first_step(rt: HostRuntime) {
+    let r3 = advance(zeros(0), 1).map(|there| there.copy.r3.value);
+    assert_eq!(rt; r3, Ok(0x9E37_79B9_7F4A_7C16));
+}
+
+#[test]
+fn step_and_tag(rt: HostRuntime) {
+    let r3 = advance(zeros(0), 1).map(|there| there.copy.r3.value);
+    assert_eq!(rt; r3, Ok(0x9E37_79B9_7F4A_7C16));
+    let message = [0x43, 0x08, 0x00, 0x12, 0x02, 0x75, 0x70];
+    let tag = <Word as Suite>::tag(&zeros(0), &message);
+    assert_eq!(rt; u64::from_be_bytes(tag), 0x10_D009_1710);
 }
 
 // What four zero parts seal at index 0 for the text "up".
@@ -71,7 +69,7 @@ const LONG_INDEX: [u8; 16] = [
 ];
 
 #[test]
-fn seals(rt: HostRuntime) {
+fn seals(rt: HostRuntime) -> Result<(), Fail> {
     let id = Id {
         w0: 0,
         w1: 0,
@@ -79,33 +77,24 @@ fn seals(rt: HostRuntime) {
         w3: 1,
     };
     let mut out = [0; 15];
-    match Sender::<Word>::new(id, &[0; 32]) {
-        Ok(sender) => {
-            let mut sender = sender;
-            match sender.seal(b"up", &mut out) {
-                Ok(n) => assert_eq!(rt; n, 15),
-                Err(refusal) => assert_eq!(rt; refusal as u8, 0),
-            }
-        }
-        Err(fault) => assert_eq!(rt; fault as u8, 0),
-    }
+    let mut sender = Sender::<Word>::new(id, &[0; 32]).map_err(|_| Fail::new("refused"))?;
+    assert_eq!(rt; sender.seal(b"up", &mut out), Ok(15));
     assert!(rt; out == UP);
+    Ok(())
 }
 
-// What four zero parts that are held at index 0 answer to a message: the length of its text, or a refusal.
-fn answer(message: &[u8]) -> Result<usize, u8> {
+// What four zero parts that are held at index 0 answer to a message: the length of its text.
+fn answer(message: &[u8]) -> Result<usize, OpenRefusal> {
     let mut scratch = [0; 4111];
-    match unseal(Some(Holding::Held(zeros(0))), message, &mut scratch) {
-        Ok(opened) => Ok(opened.size),
-        Err(refusal) => Err(refusal as u8),
-    }
+    let opened = unseal(Some(Holding::Held(zeros(0))), message, &mut scratch)?;
+    Ok(opened.size)
 }
 
 #[test]
 fn opens(rt: HostRuntime) {
     assert_eq!(rt; answer(&UP), Ok(2));
-    assert_eq!(rt; answer(&OTHER_TAG), Err(14));
-    assert_eq!(rt; answer(&LONG_INDEX), Err(8));
+    assert_eq!(rt; answer(&OTHER_TAG).map_err(u8::from), Err(14));
+    assert_eq!(rt; answer(&LONG_INDEX).map_err(u8::from), Err(8));
 }
 
 // An agreeing copy at 0 after one at 5, and a copy that differs in R3.
@@ -114,15 +103,8 @@ fn joins(rt: HostRuntime) -> Result<(), Fail> {
     let low = zeros(0);
     let mut other = low;
     other.r3 = Word { value: 1 };
-    match advance(low, 5) {
-        Ok(there) => match join_holdings(Holding::Held(there.copy), Holding::Held(low)) {
-            Holding::Held(copy) => assert_eq!(rt; copy.index, 0),
-            Holding::Disputed => return Err(Fail::new("disputed")),
-        },
-        Err(_) => return Err(Fail::new("refused")),
-    }
-    match join_holdings(Holding::Held(low), Holding::Held(other)) {
-        Holding::Held(_) => Err(Fail::new("held")),
-        Holding::Disputed => Ok(()),
-    }
+    let there = advance(low, 5).map_err(|_| Fail::new("refused"))?;
+    assert_eq!(rt; join_holdings(Holding::Held(there.copy), Holding::Held(low)), Holding::Held(zeros(0)));
+    assert_eq!(rt; join_holdings(Holding::Held(low), Holding::Held(other)), Holding::Disputed);
+    Ok(())
 }
