@@ -21,7 +21,7 @@ impl From<AllocError> for LineFault {
 impl<T: Drop> From<AllocFailed<T>> for LineFault {
     ghost from_gives = { λ _ f. f ≡ NoMemory };
 
-    fn from(_e: AllocFailed<T>) -> LineFault {
-        LineFault::NoMemory
+    fn from(e: AllocFailed<T>) -> LineFault {
+        LineFault::from(AllocError::from(e))
     }
 }
