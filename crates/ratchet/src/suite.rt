@@ -8,6 +8,7 @@ use crate::copies::{Level, SessionCopy};
 pub trait Suite: Copy + PartialEq {
     ghost suite: { Meaning Self };
 
+    // Functions and no constants, so that each answer is the suite's own by its clause.
     fn width() -> usize
         ensures { result ≡ suite.width };
 
@@ -37,7 +38,7 @@ pub trait Suite: Copy + PartialEq {
     fn tag(copy: &SessionCopy<Self>, bytes: &[u8]) -> [u8; 8]
         ensures { result ≡ suite.tag (parts copy.now) bytes.now };
 
-    // Writes the cipher of a text, and answers its length.
+    // Writes the cipher of a text, and answers its length: suites allocate nothing.
     fn encipher(copy: &SessionCopy<Self>, text: &[u8], out: &mut [u8]) -> usize
         requires short { length text.now ≤ 4096 }
         requires room { 4112 ≤ length out.old }
