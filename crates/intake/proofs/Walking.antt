@@ -1,4 +1,4 @@
--- A merge by one take after another: how the new keys are counted, and what is still to come.
+-- A merge by one take after another: what is still to come, and that there is room for it.
 use Rattle.std.proofs.Common.{◌≡◌, ℕ, suc, ◌+◌, ◌≤◌, true, List, [], ◌∷◌, is_some, sym, refl, subst, inl, inr, arith}
 use Rattle.std.proofs.lemmas.Bool.Decides.{nat_tests}
 use Rattle.std.proofs.lemmas.Bool.{lt-ltb, cases_Bool, or_left, or_right}
