@@ -39,7 +39,11 @@ fn add_taken(out: &mut String, word: &str, taken: Result<(), Refusal>) -> Result
 }
 
 // A call's word, and what it wrote to the output or its refusal.
-fn add_written(desk: &mut Desk, word: &str, written: Result<usize, Refusal>) -> Result<(), AllocError> {
+fn add_written(
+    desk: &mut Desk,
+    word: &str,
+    written: Result<usize, Refusal>,
+) -> Result<(), AllocError> {
     desk.answers.push_str(word)?;
     match written {
         Ok(n) => write!(desk.answers, " {}", Hex(front(&desk.output, n))),

@@ -104,7 +104,13 @@ fn joins(rt: HostRuntime) -> Result<(), Fail> {
     let mut other = low;
     other.r3 = Word { value: 1 };
     let there = advance(low, 5).map_err(|_| Fail::new("refused"))?;
-    assert_eq!(rt; join_holdings(Holding::Held(there.copy), Holding::Held(low)), Holding::Held(zeros(0)));
-    assert_eq!(rt; join_holdings(Holding::Held(low), Holding::Held(other)), Holding::Disputed);
+    assert_eq!(rt;
+        join_holdings(Holding::Held(there.copy), Holding::Held(low)),
+        Holding::Held(zeros(0))
+    );
+    assert_eq!(rt;
+        join_holdings(Holding::Held(low), Holding::Held(other)),
+        Holding::Disputed
+    );
     Ok(())
 }

@@ -109,5 +109,4 @@ pub fn read_frame<P: Suite>(message: &[u8]) -> Result<Frame<'_, P>, FrameFault>
 // A message is read as it was laid out.
 pub fn frame_law<P: Suite>()
     ensures { FrameLaw P.suite }
-{
-}
+{}

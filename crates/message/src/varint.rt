@@ -36,5 +36,4 @@ pub fn read_varint(bytes: &[u8]) -> Option<(u32, usize)>
 // Every varint has one form, and it is read again.
 pub fn varint_laws()
     ensures { VarintLaws }
-{
-}
+{}

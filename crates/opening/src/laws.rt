@@ -5,5 +5,4 @@ use ratchet::suite::Suite;
 // What a sender seals opens, by any copy of it that is not past the message.
 pub fn sealed_opens<P: Suite>()
     ensures { Opens P.suite }
-{
-}
+{}
