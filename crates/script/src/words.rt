@@ -45,7 +45,7 @@ pub(crate) fn number(word: &[u8]) -> Option<u32>
     text.parse().ok()
 }
 
-// The number that a hex digit is, in lower case.
+// The number that a hex digit is, in lower case; the library's `to_digit` takes upper case too.
 fn nibble_of(c: u8) -> Option<u8>
     ensures { MatchOption result ((n : ℕ) → n < 16 → c ≢ hex_digit n) (λ n. (n < 16) × (c ≡ hex_digit n)) }
 {
