@@ -11,6 +11,7 @@ use store::refusal::StoreRefusal;
 fn has_room<K: Key, V: Value, A: Store<K, V>, B: Store<K, V>>(dst: &A, src: &B) -> bool
     ensures { result ≡ room_for K.rank (A.means dst.now) (B.means src.now).entries }
 {
+    // Counts down: a store may show more entries than a number fits, so nothing can count them up.
     let mut left = dst.free();
     for (key, _) in Entries::of(src) {
         if dst.look(key).is_none() {

@@ -16,7 +16,7 @@ pub struct Opened {
     pub hashes: u32,
 }
 
-// Why a message is not opened, by its number.
+// Why a message is not opened, by its number. The reasons below are taken in by `From`, since a number is a variant's.
 #[derive(Clone, Copy, Debug, PartialEq, Eq)]
 pub enum OpenRefusal {
     Start = 7,
