@@ -5,7 +5,7 @@ ghost use Rattle.intake.specs.Numbers.{take_number};
 use copy_bytes::named::CopyFault;
 use store::refusal::StoreRefusal;
 
-// Why copy bytes are not taken, by its number. The reasons below are taken in by `From`, since a number is a variant's.
+// Why copy bytes are not taken, by its number. Flat, the lower layers' reasons taken over by `From`: a number is a discriminant.
 #[derive(Clone, Copy, Debug, PartialEq, Eq)]
 pub enum TakeRefusal {
     Length = 1,

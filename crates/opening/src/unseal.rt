@@ -16,7 +16,7 @@ pub struct Opened {
     pub hashes: u32,
 }
 
-// Why a message is not opened, by its number. The reasons below are taken in by `From`, since a number is a variant's.
+// Why a message is not opened, by its number. Flat, the lower layers' reasons taken over by `From`: a number is a discriminant.
 #[derive(Clone, Copy, Debug, PartialEq, Eq)]
 pub enum OpenRefusal {
     Start = 7,
