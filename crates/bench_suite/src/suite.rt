@@ -13,7 +13,7 @@ fn hash_number(value: u64, j: u64) -> u64
     value.rotate_left(7).wrapping_add(0x9E37_79B9_7F4A_7C15) ^ j
 }
 
-// Takes each byte in turn into the tag.
+// Takes each byte in turn into the tag, by the `for` over the bytes that the project asks for.
 fn fold_tag(start: u64, bytes: &[u8]) -> u64
     ensures { result ≡ fold mixed start bytes.now }
 {

@@ -5,7 +5,7 @@ use ratchet::copies::SessionCopy;
 use ratchet::ids::Id;
 
 // A copy of a session under the session's id.
-#[derive(Clone, Copy, Debug, PartialEq, Eq)]
+#[derive(Clone, Copy, PartialEq, Eq)]
 pub struct NamedCopy<P> {
     pub id: Id,
     pub copy: SessionCopy<P>,

@@ -1,5 +1,5 @@
 ghost use Rattle.std.specs.Prelude.{◌≡◌};
-ghost use Rattle.copy_bytes.specs.Output.{answered, filled};
+ghost use Rattle.copy_bytes.specs.Output.{Fills};
 ghost use Rattle.copy_bytes.specs.Numbers.{space_number};
 
 // Why an output is not filled, by its number.
@@ -18,8 +18,7 @@ impl From<SpaceRefusal> for u8 {
 
 // Fills the front of an output, and answers how much; what lies behind stays.
 pub fn put(bytes: &[u8], out: &mut [u8]) -> Result<usize, SpaceRefusal>
-    ensures value { result ≡ answered bytes.now out.old }
-    ensures after { out.new ≡ filled bytes.now out.old }
+    ensures { Fills bytes.now out.old result out.new }
 {
     if out.len() < bytes.len() {
         return Err(SpaceRefusal::TooSmall);

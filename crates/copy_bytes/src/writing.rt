@@ -1,7 +1,7 @@
 ghost use Rattle.std.specs.Prelude.{◌≡◌};
 ghost use Rattle.ratchet.specs.Ids.{id_bytes};
 ghost use Rattle.copy_bytes.specs.CopyBytes.{version_byte, copy_bytes, copy_length};
-ghost use Rattle.copy_bytes.specs.Output.{answered, filled};
+ghost use Rattle.copy_bytes.specs.Output.{Fills};
 
 use crate::named::{NamedCopy, Version};
 use crate::output::SpaceRefusal;
@@ -31,8 +31,7 @@ pub fn write_copy<P: Suite>(
     named: &NamedCopy<P>,
     out: &mut [u8],
 ) -> Result<usize, SpaceRefusal>
-    ensures value { result ≡ answered (copy_bytes P.suite version named.now) out.old }
-    ensures after { out.new ≡ filled (copy_bytes P.suite version named.now) out.old }
+    ensures { Fills (copy_bytes P.suite version named.now) out.old result out.new }
 {
     if out.len() < copy_length::<P>() {
         return Err(SpaceRefusal::TooSmall);
@@ -51,8 +50,7 @@ pub fn write_copy<P: Suite>(
 // Writes the 32 bytes of an id.
 #[tactic(auto, using(crate::proofs::Ids::length_id))]
 pub fn write_id(id: Id, out: &mut [u8]) -> Result<usize, SpaceRefusal>
-    ensures value { result ≡ answered (id_bytes id) out.old }
-    ensures after { out.new ≡ filled (id_bytes id) out.old }
+    ensures { Fills (id_bytes id) out.old result out.new }
 {
     if out.len() < 32 {
         return Err(SpaceRefusal::TooSmall);

@@ -8,7 +8,7 @@ use ratchet::copies::{AdvanceRefusal, Advanced, Holding};
 use ratchet::suite::Suite;
 
 // What an opened message tells: the length of its text, its index, and the hashes from the shown copy to it.
-// The text itself lies in an array that the caller lends, since the library allocates nothing.
+// The text itself lies in the memory that the caller lends: by the rules a call tells its length.
 #[derive(Clone, Copy, Debug, PartialEq, Eq)]
 pub struct Opened {
     pub size: usize,

@@ -73,6 +73,7 @@ impl<P: Suite> SessionCopy<P> {
 fn hash_times<P: Suite>(level: Level, p: P, n: u32) -> P
     ensures { result ≡ rep (P.suite.hash level) n p }
 {
+    // No `fold`: from its contract the answer did not follow.
     let mut q = p;
     for _i in 0..n {
         q = q.hashed(level);
@@ -121,10 +122,7 @@ pub fn advance<P: Suite>(copy: SessionCopy<P>, target: u32) -> Result<Advanced<P
 pub fn step<P: Suite>(copy: SessionCopy<P>) -> Option<SessionCopy<P>>
     ensures { result ≡ stepped P.suite.hash copy }
 {
-    if copy.index == u32::MAX {
-        return None;
-    }
-    let index = copy.index + 1;
+    let index = copy.index.checked_add(1)?;
     let level = Level::of(index);
     Some(copy.spread(level, copy.part(level), index))
 }

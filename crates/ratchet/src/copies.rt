@@ -2,7 +2,7 @@ ghost use Rattle.std.specs.Prelude.{◌≡◌};
 ghost use Rattle.ratchet.specs.Numbers.{advance_number};
 
 // A copy of a session: an index and four parts of the suite's own kind.
-#[derive(Clone, Copy, Debug, PartialEq, Eq)]
+#[derive(Clone, Copy, PartialEq, Eq)]
 pub struct SessionCopy<P> {
     pub index: u32,
     pub r0: P,
@@ -13,7 +13,7 @@ pub struct SessionCopy<P> {
 
 // What is held of a session: a copy, or the mark that copies of it disagreed.
 // Not an Option: a dispute is held too, and a store says by an Option whether anything is.
-#[derive(Clone, Copy, Debug, PartialEq, Eq)]
+#[derive(Clone, Copy, PartialEq, Eq)]
 pub enum Holding<P> {
     Held(SessionCopy<P>),
     Disputed,
@@ -43,7 +43,7 @@ impl From<AdvanceRefusal> for u8 {
 }
 
 // What an advance answers: the copy reached, and how many hashes that took.
-#[derive(Clone, Copy, Debug, PartialEq, Eq)]
+#[derive(Clone, Copy, PartialEq, Eq)]
 pub struct Advanced<P> {
     pub copy: SessionCopy<P>,
     pub hashes: u32,

@@ -8,7 +8,7 @@ use crate::copies::{Level, SessionCopy};
 pub trait Suite: Copy + PartialEq {
     ghost suite: { Meaning Self };
 
-    // Functions and no constants, so that each answer is the suite's own by its clause.
+    // Functions and no constants: a clause says that each is the suite's own, where a constant needs a ghost twin and a law.
     fn width() -> usize
         ensures { result ≡ suite.width };
 
@@ -45,7 +45,7 @@ pub trait Suite: Copy + PartialEq {
         ensures value { result ≡ length (suite.cipher (parts copy.now) text.now) }
         ensures after { out.new ≡ laid (suite.cipher (parts copy.now) text.now) out.old };
 
-    // Writes the text of a cipher, and answers its length, or that there is none.
+    // Writes the text of a cipher, and answers its length, or that there is none. It writes to lent memory too.
     fn decipher(copy: &SessionCopy<Self>, cipher: &[u8], out: &mut [u8]) -> Option<usize>
         requires allowed { suite.allowed (length cipher.now) ≡ true }
         requires short { length cipher.now ≤ 4116 }

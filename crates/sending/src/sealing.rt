@@ -1,5 +1,5 @@
 ghost use Rattle.std.specs.Prelude.{◌≡◌, ◌+◌, ◌≤◌, ◌++◌, length};
-ghost use Rattle.copy_bytes.specs.Output.{answered, filled};
+ghost use Rattle.copy_bytes.specs.Output.{Fills};
 ghost use Rattle.copy_bytes.specs.Placed.{Put};
 ghost use Rattle.message.specs.Frame.{head};
 ghost use Rattle.message.specs.Seal.{tagged, sealed};
@@ -10,7 +10,7 @@ use ratchet::copies::SessionCopy;
 use ratchet::suite::Suite;
 
 // Writes at a place, and answers the place behind it.
-// Like copy_bytes's own: one for both would be public, so would have to test the place, and could fail.
+// Like copy_bytes's own: one for both would be public, so would have to test the place and could fail, where a head and a varint cannot.
 #[tactic(auto, using(copy_bytes::proofs::Places::placed_part))]
 fn put_at(bytes: &[u8], out: &mut [u8], at: usize) -> usize
     requires { at + length bytes.now ≤ length out.old }
@@ -54,8 +54,7 @@ fn write_parts<P: Suite>(
     out: &mut [u8],
 ) -> Result<usize, SpaceRefusal>
     requires { length front.now + length cipher.now ≤ 4125 }
-    ensures value { result ≡ answered (tagged P.suite copy.now (front.now ++ cipher.now)) out.old }
-    ensures after { out.new ≡ filled (tagged P.suite copy.now (front.now ++ cipher.now)) out.old }
+    ensures { Fills (tagged P.suite copy.now (front.now ++ cipher.now)) out.old result out.new }
 {
     if out.len() < front.len() + cipher.len() + 8 {
         return Err(SpaceRefusal::TooSmall);
@@ -74,8 +73,7 @@ pub(crate) fn write_sealed<P: Suite>(
     out: &mut [u8],
 ) -> Result<usize, SpaceRefusal>
     requires { length text.now ≤ 4096 }
-    ensures value { result ≡ answered (sealed P.suite copy.now text.now) out.old }
-    ensures after { out.new ≡ filled (sealed P.suite copy.now text.now) out.old }
+    ensures { Fills (sealed P.suite copy.now text.now) out.old result out.new }
 {
     // Both are as long as they may get, with their length beside: nothing here is allocated.
     let mut cipher = [0; 4112];

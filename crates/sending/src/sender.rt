@@ -36,7 +36,7 @@ impl<P: Suite> Model for Sender<P> {
     ghost invariant = { λ s. (s.start.index ≡ 0) × IfSome s.next (λ c. c ≡ steps P.suite.hash c.index s.start) };
 }
 
-// Why a text is not sealed, by its number.
+// Why a text is not sealed, by its number. Flat, a small output taken over by `From`: a number is a discriminant.
 #[derive(Clone, Copy, Debug, PartialEq, Eq)]
 pub enum SealRefusal {
     TooSmall = 16,
@@ -52,7 +52,7 @@ impl From<SealRefusal> for u8 {
     }
 }
 
-// Why a copy is not shared, by its number.
+// Why a copy is not shared, by its number. Flat, as above.
 #[derive(Clone, Copy, Debug, PartialEq, Eq)]
 pub enum ShareRefusal {
     TooSmall = 16,
