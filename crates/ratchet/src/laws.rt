@@ -8,6 +8,7 @@ use crate::suite::Suite;
 use std::cmp::Ordering;
 
 // Ids are ordered as unsigned numbers.
+#[tactic(auto, using(crate::proofs::Ordering::id_order_lem))]
 pub fn id_order(a: Id, b: Id) -> Ordering
     ensures { result ≡ nat_cmp (id_number a) (id_number b) }
 {
