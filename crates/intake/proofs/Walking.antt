@@ -22,12 +22,13 @@ module _ {K V : Type 0} (rank : K → ℕ) (join : V → V → V) (raise : ℕ �
   -- m is on its way from where the merge began, and s is still to come
   pub record Left (m : Meaning K V) (s : List (K × V)) : Type 0 where
     pub ascends : Ascends rank m
+    pub rises : Rising rank 0 s
     pub floor : m.floor ≡ from.floor
     pub same : put_all rank join m.entries (each (raise m.floor) s) ≡ put_all rank join from.entries (each (raise from.floor) all)
     pub count : m.places + fresh rank from.entries all ≡ from.places + fresh rank m.entries s
     pub enough : fresh rank m.entries s ≤ m.places
 
-  module _ (m : Meaning K V) (e : K × V) (s : List (K × V)) (up : Rising rank (suc (rank e.0)) s) where
+  module _ (m : Meaning K V) (e : K × V) (s : List (K × V)) where
     left_room : Left m (e ∷ s) → room rank m e.0 ≡ true
     left_room l =
         elim (cases_Bool (is_some (looked rank m e.0))) [
@@ -38,12 +39,14 @@ module _ {K V : Type 0} (rank : K → ℕ) (join : V → V → V) (raise : ℕ �
     left_step : Left m (e ∷ s) → Left (taken rank join raise m e.0 e.1) s
     left_step l =
         let v = raise m.floor e.1 in
+        let up = l.rises.1 in
         let f = fresh_put rank join m.entries s e.0 v l.ascends up in
         let b = l.count in
         let d = l.enough in
         rw (left_room l)
         (record {
           ascends = rising_put rank join 0 m.entries e.0 v (omega arith) l.ascends;
+          rises = rising_low rank (suc (rank e.0)) 0 s (omega arith) up;
           floor = l.floor;
           same = l.same;
           count = grind (arith, nat_tests);
@@ -51,7 +54,5 @@ module _ {K V : Type 0} (rank : K → ℕ) (join : V → V → V) (raise : ℕ �
         })
 
   -- the next entry is taken
-  pub left_next : (m n : Meaning K V) (e : K × V) (s t : List (K × V)) → Rising rank 0 t → t ≡ e ∷ s → n ≡ taken rank join raise m e.0 e.1 → Left m t → Left n s
-  left_next m n e s t r at after l =
-      let up = subst (λ u. Rising rank 0 u) at r in
-      subst (λ x. Left x s) (sym after) (left_step m e s up.1 (subst (λ u. Left m u) at l))
+  pub left_next : (m n : Meaning K V) (e : K × V) (s t : List (K × V)) → t ≡ e ∷ s → n ≡ taken rank join raise m e.0 e.1 → Left m t → Left n s
+  left_next m n e s t at after l = subst (λ x. Left x s) (sym after) (left_step m e s (subst (λ u. Left m u) at l))

@@ -1,5 +1,4 @@
 use Rattle.std.proofs.Common.{◌≡◌, ◌+◌}
-use Rattle.store.specs.Maps.{beyond}
 use Rattle.intake.specs.Merging.{fresh}
 use Rattle.intake.proofs.merge.has_room.Given as goal
 
@@ -9,4 +8,4 @@ invariant-loop-key g l =
     let s = (g.B.Store.means l.src).entries in
     let it = l.key-iterator in
     (goal.iterator-loop-key g).can_next it × (goal.iterator-loop-key g).is_finite it
-    × (l.left + fresh g.K.Key.rank m.entries s ≡ m.places + fresh g.K.Key.rank m.entries (beyond g.K.Key.rank (g.B.Store.means it.store.now).entries it.last))
+    × (l.left + fresh g.K.Key.rank m.entries s ≡ m.places + fresh g.K.Key.rank m.entries it)
