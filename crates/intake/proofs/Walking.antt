@@ -1,11 +1,34 @@
 -- A merge by one take after another: what is still to come, and that there is room for it.
-use Rattle.std.proofs.Common.{◌≡◌, ℕ, suc, ◌+◌, ◌≤◌, true, List, [], ◌∷◌, is_some, sym, refl, subst, inl, inr, arith}
+use Rattle.std.proofs.Common.{◌≡◌, ℕ, suc, ◌+◌, ◌<◌, ◌≤◌, Bool, true, not, cond, count_by, is_none, IfNone, IfSome, None, Some, Option, List, [], ◌∷◌, is_some, sym, refl, subst, inl, inr, arith}
 use Rattle.std.proofs.lemmas.Bool.Decides.{nat_tests}
 use Rattle.std.proofs.lemmas.Bool.{lt-ltb, cases_Bool, or_left, or_right}
-use Rattle.store.specs.Maps.{Rising, put, each}
+use Rattle.std.proofs.lemmas.List.Sums.{sum_by-cons}
+use Rattle.store.specs.Maps.{Rising, found, put, each}
 use Rattle.store.specs.Meaning.{Meaning, Ascends, looked, room, taken}
 use Rattle.store.proofs.Lookups.{rising_low, rising_put, found_put}
-use Rattle.intake.specs.Merging.{fresh, put_all}
+use Rattle.intake.specs.Merging.{fresh, room_for, put_all}
+
+module _ {K V : Type 0} (rank : K → ℕ) where
+  abbrev pub lacks : List (K × V) → K × V → Bool
+  lacks m e = is_none (found rank m e.0)
+
+  one_new : (o : Option V) → cond (is_none o) 1 0 ≡ cond {A = ℕ} (is_some o) 0 1
+  one_new None = refl
+  one_new (Some v) = refl
+
+  fresh_count : (m s : List (K × V)) → count_by (lacks m) s ≡ fresh rank m s
+  fresh_count m [] = refl
+  fresh_count m (e ∷ s) =
+      let c = sum_by-cons (λ d. cond (lacks m d) 1 0) e s in
+      let ih = fresh_count m s in
+      let one = one_new (found rank m e.0) in
+      omega arith
+
+  -- there is room where no new key is left without a place
+  pub room_counted : (m : Meaning K V) (s : List (K × V)) (r : Option (K × V)) (b : Bool) → IfNone r (count_by (lacks m.entries) s ≤ m.places) →
+      IfSome r (λ _. m.places < count_by (lacks m.entries) s) → is_some r ≡ not b → b ≡ room_for rank m s
+  room_counted m s None b none some is = let n = fresh_count m.entries s in grind (arith, nat_tests)
+  room_counted m s (Some e) b none some is = let n = fresh_count m.entries s in grind (arith, nat_tests)
 
 module _ {K V : Type 0} (rank : K → ℕ) (join : V → V → V) where
   -- a key that is put makes no later key new or known
