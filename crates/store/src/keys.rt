@@ -9,10 +9,6 @@ use ratchet::ids::Id;
 
 // Ids are ordered as unsigned numbers.
 impl Key for Id {
-    const MOST: usize = 4096;
-
-    ghost MOST = { 4096 };
-
     ghost rank = { id_number };
 
     ghost ordered = { id_order_lem };
@@ -20,10 +16,6 @@ impl Key for Id {
 
 // Spots are ordered by their session, and then by the index.
 impl Key for Spot {
-    const MOST: usize = 65_536;
-
-    ghost MOST = { 65536 };
-
     ghost rank = { spot_number };
 
     ghost ordered = { λ a b. id_then_lem a.id b.id (2 ^ 32) a.index b.index a.fits b.fits };

@@ -9,11 +9,6 @@ use crate::refusal::StoreRefusal;
 
 // A key, ordered by its rank, a number.
 pub trait Key: Copy + Ord {
-    // How many of these keys a table can hold.
-    const MOST: usize;
-
-    ghost MOST: { ℕ };
-
     ghost rank: { Self → ℕ };
 
     ghost ordered: { (a b : Self) → Self.cmp a b ≡ nat_cmp (rank a) (rank b) };

@@ -12,6 +12,8 @@ use store::refusal::StoreRefusal;
 // One place of a keyed table: free, or an entry.
 pub type Slot<K, V> = Option<(K, V)>;
 
+// A chain's law is found only at a function of its own, so this one, `entry_of` and `lowest_above`
+// retrace their chains, and the callers' proofs say what that means for keys in order.
 fn key_place<K: Key, V: Copy>(slots: &[Slot<K, V>], key: K) -> Option<usize>
     ensures { result ≡ position (λ s. option_map_or (λ e. K.eq e.0 key) s false) slots.now }
 {

@@ -4,6 +4,7 @@ ghost use Rattle.store.specs.Meaning.{empty};
 ghost use Rattle.tables.specs.Slots.{slots_mean};
 ghost use Rattle.store.proofs.Lookups.{in_order_rising};
 
+use crate::keys::TableKey;
 use crate::slots::{Slot, count_free, entry_of, lowest_above, take_in};
 use store::meaning::{Key, Store, Value};
 use store::refusal::StoreRefusal;
@@ -46,7 +47,7 @@ impl<K: Key, V: Value> Store<K, V> for Table<'_, K, V> {
     }
 }
 
-impl<'a, K: Key, V: Value> Table<'a, K, V> {
+impl<'a, K: TableKey, V: Value> Table<'a, K, V> {
     // An empty table. Where no slot is left over, it lies in all the memory lent.
     pub fn over(slots: &'a mut [Slot<K, V>]) -> Table<'a, K, V>
         ensures means { slots_mean K.rank result.slots.now ≡ empty (min (length slots.old) K.MOST) }

@@ -1,4 +1,3 @@
-use Rattle.store.specs.Maps.{beyond}
 use Rattle.intake.proofs.Walking.{Left}
 use Rattle.intake.proofs.merge.merge.Given as goal
 
@@ -7,5 +6,5 @@ invariant-loop-key g l =
     let s = (g.B.Store.means l.src).entries in
     let it = l.key-iterator in
     (goal.iterator-loop-key g).can_next it × (goal.iterator-loop-key g).is_finite it
-    × Left g.K.Key.rank g.V.Value.join g.V.Value.raise (g.A.Store.means l.initial.dst) s (g.A.Store.means l.dst) (beyond g.K.Key.rank (g.B.Store.means it.store.now).entries it.last)
+    × Left g.K.Key.rank g.V.Value.join g.V.Value.raise (g.A.Store.means l.initial.dst) s (g.A.Store.means l.dst) it
     × g.A.Store.steady l.initial.dst l.dst

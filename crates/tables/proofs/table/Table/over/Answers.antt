@@ -6,10 +6,10 @@ use Rattle.tables.proofs.table.Table.over.Goals as goal
 pub returns-then-slots-MOST-clause-means : goal.returns-then-slots-MOST-clause-means
 returns-then-slots-MOST-clause-means g c =
     let cleared : c.fill.new.self ≡ replicate (length c.args.slots.now) None = search rules in
-    all_cleared g.K.Key.rank (length c.args.slots.now) g.K.Key.MOST c.fill.new.self cleared (omega arith)
+    all_cleared g.K.Key.rank (length c.args.slots.now) g.K.TableKey.MOST c.fill.new.self cleared (omega arith)
 
 pub returns-else-slots-MOST-clause-means : goal.returns-else-slots-MOST-clause-means
 returns-else-slots-MOST-clause-means g c =
     let cleared : c.fill.new.self ≡ replicate (length c.args.slots.now) None = search rules in
     ap (λ m. slots_mean g.K.Key.rank (take (m - 0) c.fill.new.self)) c.MOST-else-slots-MOST.ensures
-    ∙ front_cleared g.K.Key.rank (length c.args.slots.now) g.K.Key.MOST c.fill.new.self cleared (omega arith)
+    ∙ front_cleared g.K.Key.rank (length c.args.slots.now) g.K.TableKey.MOST c.fill.new.self cleared (omega arith)

@@ -1,0 +1,24 @@
+ghost use Rattle.std.specs.Prelude.{ℕ};
+
+use ratchet::ids::Id;
+use store::meaning::Key;
+use store::spot::Spot;
+
+// A key that tables hold, and how many at most.
+pub trait TableKey: Key {
+    const MOST: usize;
+
+    ghost MOST: { ℕ };
+}
+
+impl TableKey for Id {
+    const MOST: usize = 4096;
+
+    ghost MOST = { 4096 };
+}
+
+impl TableKey for Spot {
+    const MOST: usize = 65_536;
+
+    ghost MOST = { 65536 };
+}
