@@ -1,9 +1,8 @@
 // An archive and its sender, and what they answer to the calls of a script.
-ghost use Rattle.std.specs.Prelude.{◌≡◌, ◌++◌, Err, codes, decimal, string_bytes, OnOk};
+ghost use Rattle.std.specs.Prelude.{◌++◌, codes, decimal, OnOk};
 ghost use Rattle.ratchet.specs.Ids.{id_number};
 ghost use Rattle.store.specs.Meaning.{looked, nexted};
-ghost use Rattle.console.specs.Lines.{look_line, next_line};
-ghost use Rattle.script.specs.declared.fault.LineFault.TheVariants.{BadLine};
+ghost use Rattle.console.specs.Lines.{Adds, look_line, next_line};
 
 use crate::answers::{Hex, Refusal};
 use crate::desk::{Desk, front};
@@ -76,7 +75,7 @@ impl<P: Suite, S: Store<Id, Holding<P>>> Archive<S, P> {
     }
 
     fn look(&self, id: Id, desk: &mut Desk) -> Result<(), AllocError>
-        ensures { OnOk result (string_bytes desk.new.answers ≡ string_bytes desk.old.answers ++ look_line P.suite (looked id_number (S.means self.now.store) id)) }
+        ensures { OnOk result (Adds desk.old (look_line P.suite (looked id_number (S.means self.now.store) id)) desk.new) }
     {
         match self.store.look(id) {
             Some(holding) => write!(desk.answers, "look{}", Shown(holding)),
@@ -85,7 +84,7 @@ impl<P: Suite, S: Store<Id, Holding<P>>> Archive<S, P> {
     }
 
     fn next(&self, last: Option<Id>, desk: &mut Desk) -> Result<(), AllocError>
-        ensures { OnOk result (string_bytes desk.new.answers ≡ string_bytes desk.old.answers ++ next_line P.suite (nexted id_number (S.means self.now.store) last)) }
+        ensures { OnOk result (Adds desk.old (next_line P.suite (nexted id_number (S.means self.now.store) last)) desk.new) }
     {
         match self.store.next(&last) {
             Some((id, holding)) => write!(desk.answers, "next {}{}", Name(id), Shown(holding)),
@@ -105,13 +104,13 @@ impl<P: Suite, S: Store<Id, Holding<P>>> Archive<S, P> {
     }
 
     fn free(&self, desk: &mut Desk) -> Result<(), AllocError>
-        ensures { OnOk result (string_bytes desk.new.answers ≡ string_bytes desk.old.answers ++ (codes "free " ++ decimal (S.means self.now.store).places)) }
+        ensures { OnOk result (Adds desk.old (codes "free " ++ decimal (S.means self.now.store).places) desk.new) }
     {
         write!(desk.answers, "free {}", self.store.free())
     }
 
     fn floor(&self, desk: &mut Desk) -> Result<(), AllocError>
-        ensures { OnOk result (string_bytes desk.new.answers ≡ string_bytes desk.old.answers ++ (codes "floor " ++ decimal (S.means self.now.store).floor)) }
+        ensures { OnOk result (Adds desk.old (codes "floor " ++ decimal (S.means self.now.store).floor) desk.new) }
     {
         write!(desk.answers, "floor {}", self.store.floor())
     }
