@@ -31,10 +31,7 @@ pub(crate) struct Archive<S, P: Suite> {
 // A call's word, and its refusal.
 fn add_taken(out: &mut String, word: &str, taken: Result<(), Refusal>) -> Result<(), AllocError> {
     out.push_str(word)?;
-    match taken {
-        Ok(()) => Ok(()),
-        Err(refusal) => write!(out, " {refusal}"),
-    }
+    taken.or_else(|refusal| write!(out, " {refusal}"))
 }
 
 // A call's word, and what it wrote to the output or its refusal.
