@@ -1,9 +1,8 @@
 // An archive and its sender, and what they answer to the calls of a script.
-ghost use Rattle.std.specs.Prelude.{◌≡◌, ◌++◌, Err, codes, decimal, string_bytes, OnOk};
+ghost use Rattle.std.specs.Prelude.{◌++◌, codes, decimal, OnOk};
 ghost use Rattle.ratchet.specs.Ids.{id_number};
 ghost use Rattle.store.specs.Meaning.{looked, nexted};
-ghost use Rattle.console.specs.Lines.{look_line, next_line};
-ghost use Rattle.script.specs.declared.fault.LineFault.TheVariants.{BadLine};
+ghost use Rattle.console.specs.Lines.{Adds, look_line, next_line};
 
 use crate::answers::{Hex, Refusal};
 use crate::desk::{Desk, front};
@@ -32,10 +31,7 @@ pub(crate) struct Archive<S, P: Suite> {
 // A call's word, and its refusal.
 fn add_taken(out: &mut String, word: &str, taken: Result<(), Refusal>) -> Result<(), AllocError> {
     out.push_str(word)?;
-    match taken {
-        Ok(()) => Ok(()),
-        Err(refusal) => write!(out, " {refusal}"),
-    }
+    taken.or_else(|refusal| write!(out, " {refusal}"))
 }
 
 // A call's word, and what it wrote to the output or its refusal.
@@ -51,78 +47,6 @@ fn add_written(
     }
 }
 
-fn take<P: Suite, S: Store<Id, Holding<P>>>(
-    store: &mut S,
-    copy: &[u8],
-    desk: &mut Desk,
-) -> Result<(), AllocError> {
-    let taken = take_bytes(store, copy).map_err(Refusal::of);
-    add_taken(&mut desk.answers, "take", taken)
-}
-
-fn dispute<P: Suite, S: Store<Id, Holding<P>>>(
-    store: &mut S,
-    id: Id,
-    desk: &mut Desk,
-) -> Result<(), AllocError> {
-    let taken = store.take(id, Holding::Disputed).map_err(Refusal::of);
-    add_taken(&mut desk.answers, "dispute", taken)
-}
-
-fn look<P: Suite, S: Store<Id, Holding<P>>>(
-    store: &S,
-    id: Id,
-    desk: &mut Desk,
-) -> Result<(), AllocError>
-    ensures { OnOk result (string_bytes desk.new.answers ≡ string_bytes desk.old.answers ++ look_line P.suite (looked id_number (S.means store.now) id)) }
-{
-    match store.look(id) {
-        Some(holding) => write!(desk.answers, "look{}", Shown(holding)),
-        None => write!(desk.answers, "look none"),
-    }
-}
-
-fn next<P: Suite, S: Store<Id, Holding<P>>>(
-    store: &S,
-    last: Option<Id>,
-    desk: &mut Desk,
-) -> Result<(), AllocError>
-    ensures { OnOk result (string_bytes desk.new.answers ≡ string_bytes desk.old.answers ++ next_line P.suite (nexted id_number (S.means store.now) last)) }
-{
-    match store.next(&last) {
-        Some((id, holding)) => write!(desk.answers, "next {}{}", Name(id), Shown(holding)),
-        None => write!(desk.answers, "next none"),
-    }
-}
-
-fn open_message<P: Suite, S: Store<Id, Holding<P>>>(
-    store: &S,
-    id: Id,
-    message: &[u8],
-    desk: &mut Desk,
-) -> Result<(), AllocError> {
-    desk.answers.push_str("open")?;
-    match open(store, id, message, &mut desk.output) {
-        Ok(opened) => {
-            let text = Hex(front(&desk.output, opened.size));
-            write!(desk.answers, " {} {} {text}", opened.index, opened.hashes)
-        }
-        Err(refusal) => write!(desk.answers, " {}", Refusal::of(refusal)),
-    }
-}
-
-fn free<P: Suite, S: Store<Id, Holding<P>>>(store: &S, desk: &mut Desk) -> Result<(), AllocError>
-    ensures { OnOk result (string_bytes desk.new.answers ≡ string_bytes desk.old.answers ++ (codes "free " ++ decimal (S.means store.now).places)) }
-{
-    write!(desk.answers, "free {}", store.free())
-}
-
-fn floor<P: Suite, S: Store<Id, Holding<P>>>(store: &S, desk: &mut Desk) -> Result<(), AllocError>
-    ensures { OnOk result (string_bytes desk.new.answers ≡ string_bytes desk.old.answers ++ (codes "floor " ++ decimal (S.means store.now).floor)) }
-{
-    write!(desk.answers, "floor {}", store.floor())
-}
-
 // The hashes to a target, and the copy there.
 fn moved<P: Suite>(bytes: &[u8], target: u32) -> Result<(u32, NamedCopy<P>), Refusal> {
     let named = read_copy(bytes, Accepted::ShareOrExport).map_err(Refusal::of)?;
@@ -136,71 +60,111 @@ fn moved<P: Suite>(bytes: &[u8], target: u32) -> Result<(u32, NamedCopy<P>), Ref
     ))
 }
 
-// The space limits no advance, which writes no output.
-fn advance_bytes<P: Suite>(bytes: &[u8], target: u32, desk: &mut Desk) -> Result<(), AllocError> {
-    desk.answers.push_str("advance")?;
-    match moved::<P>(bytes, target) {
-        Ok((hashes, named)) => write!(desk.answers, " {hashes} {}", Export(named)),
-        Err(refusal) => write!(desk.answers, " {refusal}"),
+impl<P: Suite, S: Store<Id, Holding<P>>> Archive<S, P> {
+    fn take(&mut self, copy: &[u8], desk: &mut Desk) -> Result<(), AllocError> {
+        let taken = take_bytes(&mut self.store, copy).map_err(Refusal::of);
+        add_taken(&mut desk.answers, "take", taken)
     }
-}
 
-fn make_sender<P: Suite>(
-    sender: &mut Option<Sender<P>>,
-    id: Id,
-    start: &[u8],
-    desk: &mut Desk,
-) -> Result<(), AllocError> {
-    desk.answers.push_str("sender")?;
-    match Sender::new(id, start) {
-        Ok(made) => {
-            write!(desk.answers, " {}", made.index())?;
-            *sender = Some(made);
-            Ok(())
+    fn dispute(&mut self, id: Id, desk: &mut Desk) -> Result<(), AllocError> {
+        let taken = self.store.take(id, Holding::Disputed);
+        add_taken(&mut desk.answers, "dispute", taken.map_err(Refusal::of))
+    }
+
+    fn look(&self, id: Id, desk: &mut Desk) -> Result<(), AllocError>
+        ensures { OnOk result (Adds desk.old (look_line P.suite (looked id_number (S.means self.now.store) id)) desk.new) }
+    {
+        match self.store.look(id) {
+            Some(holding) => write!(desk.answers, "look{}", Shown(holding)),
+            None => write!(desk.answers, "look none"),
         }
-        Err(fault) => write!(desk.answers, " {}", Refusal::of(fault)),
+    }
+
+    fn next(&self, last: Option<Id>, desk: &mut Desk) -> Result<(), AllocError>
+        ensures { OnOk result (Adds desk.old (next_line P.suite (nexted id_number (S.means self.now.store) last)) desk.new) }
+    {
+        match self.store.next(&last) {
+            Some((id, holding)) => write!(desk.answers, "next {}{}", Name(id), Shown(holding)),
+            None => write!(desk.answers, "next none"),
+        }
+    }
+
+    fn open(&self, id: Id, message: &[u8], desk: &mut Desk) -> Result<(), AllocError> {
+        desk.answers.push_str("open")?;
+        match open(&self.store, id, message, &mut desk.output) {
+            Ok(opened) => {
+                let text = Hex(front(&desk.output, opened.size));
+                write!(desk.answers, " {} {} {text}", opened.index, opened.hashes)
+            }
+            Err(refusal) => write!(desk.answers, " {}", Refusal::of(refusal)),
+        }
+    }
+
+    fn free(&self, desk: &mut Desk) -> Result<(), AllocError>
+        ensures { OnOk result (Adds desk.old (codes "free " ++ decimal (S.means self.now.store).places) desk.new) }
+    {
+        write!(desk.answers, "free {}", self.store.free())
+    }
+
+    fn floor(&self, desk: &mut Desk) -> Result<(), AllocError>
+        ensures { OnOk result (Adds desk.old (codes "floor " ++ decimal (S.means self.now.store).floor) desk.new) }
+    {
+        write!(desk.answers, "floor {}", self.store.floor())
+    }
+
+    // The space limits no advance, which writes no output.
+    fn advance(&self, bytes: &[u8], target: u32, desk: &mut Desk) -> Result<(), AllocError> {
+        desk.answers.push_str("advance")?;
+        match moved::<P>(bytes, target) {
+            Ok((hashes, named)) => write!(desk.answers, " {hashes} {}", Export(named)),
+            Err(refusal) => write!(desk.answers, " {refusal}"),
+        }
+    }
+
+    fn start(&mut self, id: Id, start: &[u8], desk: &mut Desk) -> Result<(), AllocError> {
+        desk.answers.push_str("sender")?;
+        match Sender::new(id, start) {
+            Ok(sender) => {
+                write!(desk.answers, " {}", sender.index())?;
+                self.sender = Some(sender);
+                Ok(())
+            }
+            Err(fault) => write!(desk.answers, " {}", Refusal::of(fault)),
+        }
     }
 }
 
-fn seal<P: Suite>(
-    sender: &mut Option<Sender<P>>,
-    text: &[u8],
-    desk: &mut Desk,
-) -> Result<(), LineFault>
-    ensures bad_sender { result ≡ Err BadLine → sender.new ≡ sender.old }
-    ensures bad_desk { result ≡ Err BadLine → desk.new ≡ desk.old }
-{
-    let Some(sender) = sender else {
-        return Err(LineFault::BadLine);
-    };
+// What a sender answers.
+fn seal<P: Suite>(sender: &mut Sender<P>, text: &[u8], desk: &mut Desk) -> Result<(), AllocError> {
     let written = sender.seal(text, &mut desk.output);
-    Ok(add_written(desk, "seal", written.map_err(Refusal::of))?)
+    add_written(desk, "seal", written.map_err(Refusal::of))
 }
 
-fn share<P: Suite>(sender: &Option<Sender<P>>, index: u32, desk: &mut Desk) -> Result<(), LineFault>
-    ensures bad_desk { result ≡ Err BadLine → desk.new ≡ desk.old }
-{
-    let Some(sender) = sender else {
-        return Err(LineFault::BadLine);
-    };
+fn share<P: Suite>(sender: &Sender<P>, index: u32, desk: &mut Desk) -> Result<(), AllocError> {
     let written = sender.share(index, &mut desk.output);
-    Ok(add_written(desk, "share", written.map_err(Refusal::of))?)
+    add_written(desk, "share", written.map_err(Refusal::of))
 }
 
 impl<P: Suite, S: Store<Id, Holding<P>>> Serves for Archive<S, P> {
     fn serve(&mut self, call: Call, desk: &mut Desk) -> Result<(), LineFault> {
         match call {
-            Call::Sender(id, start) => make_sender(&mut self.sender, id, &start, desk)?,
-            Call::Seal(text) => seal(&mut self.sender, &text, desk)?,
-            Call::Share(index) => share(&self.sender, index, desk)?,
-            Call::Take(copy) => take(&mut self.store, &copy, desk)?,
-            Call::Dispute(id) => dispute(&mut self.store, id, desk)?,
-            Call::Look(id) => look(&self.store, id, desk)?,
-            Call::Next(last) => next(&self.store, last, desk)?,
-            Call::Open(id, message) => open_message(&self.store, id, &message, desk)?,
-            Call::Free => free(&self.store, desk)?,
-            Call::Floor => floor(&self.store, desk)?,
-            Call::Advance(copy, target) => advance_bytes::<P>(&copy, target, desk)?,
+            Call::Sender(id, start) => self.start(id, &start, desk)?,
+            Call::Seal(text) => {
+                let sender = self.sender.as_mut().ok_or(LineFault::BadLine)?;
+                seal(sender, &text, desk)?
+            }
+            Call::Share(index) => {
+                let sender = self.sender.as_ref().ok_or(LineFault::BadLine)?;
+                share(sender, index, desk)?
+            }
+            Call::Take(copy) => self.take(&copy, desk)?,
+            Call::Dispute(id) => self.dispute(id, desk)?,
+            Call::Look(id) => self.look(id, desk)?,
+            Call::Next(last) => self.next(last, desk)?,
+            Call::Open(id, message) => self.open(id, &message, desk)?,
+            Call::Free => self.free(desk)?,
+            Call::Floor => self.floor(desk)?,
+            Call::Advance(copy, target) => self.advance(&copy, target, desk)?,
         }
         Ok(desk.answers.push('\n')?)
     }

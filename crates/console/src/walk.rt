@@ -52,12 +52,8 @@ fn answer<S: Serves>(
         return Ok(None);
     }
     match obey(line, server, desk) {
-        Ok(plan) => Ok(plan),
-        Err(LineFault::BadLine) => {
-            writeln!(desk.answers, "bad line {number}")?;
-            Ok(None)
-        }
-        Err(LineFault::NoMemory) => Err(AllocError),
+        Err(LineFault::BadLine) => writeln!(desk.answers, "bad line {number}").map(|()| None),
+        answered => answered.map_err(|_| AllocError),
     }
 }
 

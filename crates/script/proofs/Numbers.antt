@@ -1,14 +1,12 @@
 -- A word that `parse` reads, with no sign and no zero before other digits, is how the number is written.
-use Rattle.std.proofs.Common.{◌≡◌, ℕ, suc, zero, ◌^◌, ◌<◌, List, length, get_or, Ok, Err, decimal, Result, sym, refl, ap, ◌∙◌, arith, MatchOption, ◌≢◌}
+use Rattle.std.proofs.Common.{◌≡◌, ℕ, suc, zero, ◌^◌, ◌<◌, List, Ok, Err, decimal, Result, sym, refl, ap, ◌∙◌, arith, MatchOption, ◌≢◌}
 use Rattle.std.proofs.lemmas.Fmt.{decimal-digits_value, decimal_digit, first_decimal, parse-decimal, IsAscii-decimal}
 use Rattle.std.proofs.lemmas.Str.{IsUtf8-from_ascii}
 use Rattle.std.proofs.lemmas.Str.Parse.{IsNumeralModel, numerals_by_value, tells_digits, parse_plain}
 use Rattle.std.specs.Result.{result_ok}
 use Rattle.std.specs.Str.{IsUtf8}
 use Rattle.std.specs.Str.Parse.{AllDigits, ParsesUnsigned, digits_value}
-
-abbrev pub IsPlain : List ℕ → Type 0
-IsPlain w = (get_or w 0 0 ≢ 43) × (get_or w 0 0 ≡ 48 → length w ≡ 1)
+use Rattle.script.specs.Words.{IsPlain}
 
 own : IsNumeralModel (AllDigits 10) (digits_value 10)
 own = numerals_by_value (AllDigits 10) tells_digits

@@ -1,5 +1,5 @@
 -- How a text is cut at a separator, and how bytes are written in a script.
-use Rattle.std.specs.Prelude.{ℕ, ◌+◌, ◌/◌, ◌%◌, cond, List, [], ◌∷◌, length, Some, None, Option, ◌==◌, nat_lt}
+use Rattle.std.specs.Prelude.{◌≡◌, ◌≢◌, ℕ, ◌+◌, ◌/◌, ◌%◌, cond, List, [], ◌∷◌, length, slice_index, Some, None, Option, ◌==◌, nat_lt}
 
 -- what stands before the first separator, or all
 abbrev pub upto : ℕ → List ℕ → List ℕ
@@ -10,6 +10,10 @@ upto s (c ∷ cs) = cond (c == s) [] (c ∷ upto s cs)
 abbrev pub behind : ℕ → List ℕ → Option (List ℕ)
 behind s [] = None
 behind s (c ∷ cs) = cond (c == s) (Some cs) (behind s cs)
+
+-- a number with no sign (43), and no zero (48) before other digits
+abbrev pub IsPlain : List ℕ → Type 0
+IsPlain w = (slice_index w 0 ≢ 43) × (slice_index w 0 ≡ 48 → length w ≡ 1)
 
 -- bytes in hex, two digits each
 abbrev pub hex_digit : ℕ → ℕ

@@ -22,10 +22,7 @@ fn cut_line(text: &[u8]) -> (&[u8], Option<&[u8]>)
     ensures rest { option_map (λ x. x.now) result.1 ≡ behind 10 text.now }
     ensures less { extent (option_map (λ x. x.now) result.1) < extent (Some text.now) }
 {
-    match split_once(text, b'\n') {
-        Some((line, rest)) => (line, Some(rest)),
-        None => (text, None),
-    }
+    split_once(text, b'\n').map_or((text, None), |(line, rest)| (line, Some(rest)))
 }
 
 impl<'a> Model for Script<'a> {
@@ -46,6 +43,13 @@ impl<'a> Script<'a> {
             rest: Some(text),
             lines: 0,
         }
+    }
+
+    // What is left to read.
+    pub fn rest(&self) -> Option<&'a [u8]>
+        ensures { option_map (λ x. x.now) result ≡ self.now.rest }
+    {
+        self.rest
     }
 
     // How many lines were given out: the number of the last one.

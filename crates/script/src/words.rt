@@ -3,7 +3,7 @@ ghost use Rattle.std.specs.Prelude.{◌≡◌, ℕ, ◌<◌, ◌^◌, ◌/◌, �
 ghost use Rattle.std.specs.List.{AllByRecursion};
 ghost use Rattle.ratchet.specs.Bytes.{Byte};
 ghost use Rattle.script.specs.declared.fault.LineFault.TheVariants.{BadLine};
-ghost use Rattle.script.specs.Words.{upto, behind, hex_digit, hex, hex_word};
+ghost use Rattle.script.specs.Words.{upto, behind, IsPlain, hex_digit, hex, hex_word};
 
 use crate::fault::LineFault;
 use std::alloc::Global;
@@ -25,9 +25,8 @@ pub(crate) fn split_once(bytes: &[u8], separator: u8) -> Option<(&[u8], &[u8])>
     Some((&bytes[..n], &bytes[n + 1..]))
 }
 
-// No sign, and no zero before other digits.
 fn is_plain(word: &[u8]) -> bool
-    ensures { IsTrue result ↔ ((slice_index word.now 0 ≢ 43) × (slice_index word.now 0 ≡ 48 → length word.now ≡ 1)) }
+    ensures { IsTrue result ↔ IsPlain word.now }
 {
     !matches!(word, [b'+', ..] | [b'0', _, ..])
 }
@@ -39,10 +38,7 @@ pub(crate) fn number(word: &[u8]) -> Option<u32>
     if !is_plain(word) {
         return None;
     }
-    let Ok(text) = str::from_utf8(word) else {
-        return None;
-    };
-    text.parse().ok()
+    str::from_utf8(word).ok()?.parse().ok()
 }
 
 // The number that a hex digit is, in lower case; the library's `to_digit` takes upper case too.
@@ -68,10 +64,7 @@ fn read_pairs(heap: Global, word: &[u8]) -> Result<Vec<u8>, LineFault>
     let mut read = Vec::new(heap);
     let mut rest = word;
     while let [high, low, tail @ ..] = rest {
-        let Some(b) = byte_of(*high, *low) else {
-            return Err(LineFault::BadLine);
-        };
-        read.push(b)?;
+        read.push(byte_of(*high, *low).ok_or(LineFault::BadLine)?)?;
         rest = tail;
     }
     if rest.is_empty() {

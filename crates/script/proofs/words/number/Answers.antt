@@ -1,15 +1,15 @@
 use Rattle.std.proofs.Common.{rules}
-use Rattle.script.proofs.Numbers.{IsPlain}
+use Rattle.script.specs.Words.{IsPlain}
 use Rattle.script.proofs.Numbers.{not_plain, not_text, parsed_text}
 use Rattle.script.proofs.words.number.Goals as goal
 
 pub returns-then-not-is_plain : goal.returns-then-not-is_plain
 returns-then-not-is_plain c = let h : IsPlain c.args.word.now → ⊥ = search rules in not_plain c.args.word.now h
 
-pub returns-in_default : goal.returns-in_default
-returns-in_default c = not_text c.args.word.now c.in_default.ensures.cases.0
+pub returns-in_err-ok : goal.returns-in_err-ok
+returns-in_err-ok c = rw c.from_residual.ensures (not_text c.args.word.now (search rules))
 
 pub returns : goal.returns
 returns c =
     let plain : IsPlain c.args.word.now = search rules in
-    rw c.ok.ensures.value (parsed_text c.args.word.now c.in-Ok.text.now c.parse.result c.in-Ok.ensures.cases.0 plain c.parse.ensures.value.0)
+    rw c.ok-2.ensures.value (parsed_text c.args.word.now c.in_ok-ok.field-0.now c.parse.result (search rules) plain c.parse.ensures.value.0)
