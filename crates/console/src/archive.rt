@@ -28,13 +28,13 @@ pub(crate) struct Archive<S, P: Suite> {
     pub(crate) sender: Option<Sender<P>>,
 }
 
-// A call's word, and its refusal.
+// A call's word before its refusal, since no refusal knows the call.
 fn add_taken(out: &mut String, word: &str, taken: Result<(), Refusal>) -> Result<(), AllocError> {
     out.push_str(word)?;
     taken.or_else(|refusal| write!(out, " {refusal}"))
 }
 
-// A call's word, and what it wrote to the output or its refusal.
+// A call's word before what it wrote to the output, or before its refusal.
 fn add_written(
     desk: &mut Desk,
     word: &str,

@@ -15,7 +15,7 @@ use ratchet::ids::Id;
 use ratchet::suite::Suite;
 use std::fmt;
 
-// An id, as a word.
+// An id, as a word. `fmt` has no heap, so its bytes lie in an array.
 #[derive(Clone, Copy)]
 pub(crate) struct Name(pub(crate) Id);
 
@@ -62,7 +62,7 @@ impl<P: Suite> fmt::Display for Shown<P> {
     }
 }
 
-// The bytes of a copy with the export byte, as a word. There is room for the widest parts.
+// The bytes of a copy with the export byte, as a word. They lie in an array too, which has room for the widest parts.
 #[derive(Clone, Copy)]
 pub(crate) struct Export<P>(pub(crate) NamedCopy<P>);
 
@@ -71,9 +71,7 @@ impl<P: Suite> fmt::Display for Export<P> {
 
     fn fmt<W: fmt::Write>(&self, f: &mut fmt::Formatter<W>) -> fmt::Result {
         let mut bytes = [0; 4133];
-        match write_copy(Version::Export, &self.0, &mut bytes) {
-            Ok(n) => Hex(front(&bytes, n)).fmt(f),
-            Err(_) => Err(fmt::Error),
-        }
+        let n = write_copy(Version::Export, &self.0, &mut bytes).map_err(|_| fmt::Error)?;
+        Hex(front(&bytes, n)).fmt(f)
     }
 }

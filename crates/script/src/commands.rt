@@ -5,7 +5,7 @@ ghost use Rattle.script.specs.Verbs.{verb_word};
 ghost use Rattle.script.specs.Words.{hex_word};
 
 use crate::fault::LineFault;
-use crate::verbs::{Verb, read_verb};
+use crate::verbs::Verb;
 use crate::words::{number, read_bytes, split_once};
 use copy_bytes::reading::read_id;
 use ratchet::ids::Id;
@@ -59,7 +59,8 @@ fn read_count(word: &[u8]) -> Result<usize, LineFault>
     }
 }
 
-// An id is 64 hex digits. The heap stays a parameter here and below: a struct of it alone makes no line shorter.
+// An id is 64 hex digits.
+// The heap goes with another word each time, so a struct of both would be made anew at each call.
 fn read_name(heap: Global, word: &[u8]) -> Result<Id, LineFault>
     ensures { IfOk result (λ k. word.now ≡ id_word k) }
 {
@@ -167,10 +168,7 @@ pub fn read_command(heap: Global, line: &[u8]) -> Result<Command, LineFault>
     ensures { IfOk result (λ c. line.now ≡ command_line c) }
 {
     match split_once(line, b' ') {
-        Some((word, rest)) => {
-            let verb = read_verb(word).ok_or(LineFault::BadLine)?;
-            read_with(heap, verb, rest)
-        }
-        None => read_lone(read_verb(line).ok_or(LineFault::BadLine)?),
+        Some((word, rest)) => read_with(heap, Verb::try_from(word)?, rest),
+        None => read_lone(Verb::try_from(line)?),
     }
 }

@@ -1,7 +1,9 @@
 // The word that a command begins with.
-ghost use Rattle.std.specs.Prelude.{◌≡◌, MatchOption, ◌≢◌};
+ghost use Rattle.std.specs.Prelude.{◌≡◌, MatchResult, ◌≢◌};
 ghost use Rattle.script.specs.declared.verbs.Verb.{Verb as AnyVerb};
 ghost use Rattle.script.specs.Verbs.{verb_word};
+
+use crate::fault::LineFault;
 
 #[derive(Clone, Copy)]
 pub(crate) enum Verb {
@@ -21,23 +23,27 @@ pub(crate) enum Verb {
 }
 
 // The verb that a word is; no verb has another word.
-pub(crate) fn read_verb(word: &[u8]) -> Option<Verb>
-    ensures { MatchOption result ((v : AnyVerb) → word.now ≢ verb_word v) (λ v. word.now ≡ verb_word v) }
-{
-    match word {
-        b"archive" => Some(Verb::Archive),
-        b"space" => Some(Verb::Space),
-        b"sender" => Some(Verb::Sender),
-        b"seal" => Some(Verb::Seal),
-        b"share" => Some(Verb::Share),
-        b"take" => Some(Verb::Take),
-        b"dispute" => Some(Verb::Dispute),
-        b"look" => Some(Verb::Look),
-        b"next" => Some(Verb::Next),
-        b"open" => Some(Verb::Open),
-        b"advance" => Some(Verb::Advance),
-        b"free" => Some(Verb::Free),
-        b"floor" => Some(Verb::Floor),
-        _ => None,
+impl<'a> TryFrom<&'a [u8]> for Verb {
+    type Error = LineFault;
+
+    ghost try_from_gives = { λ word r. MatchResult r (λ v. word.now ≡ verb_word v) (λ _. (v : AnyVerb) → word.now ≢ verb_word v) };
+
+    fn try_from(word: &'a [u8]) -> Result<Verb, LineFault> {
+        match word {
+            b"archive" => Ok(Verb::Archive),
+            b"space" => Ok(Verb::Space),
+            b"sender" => Ok(Verb::Sender),
+            b"seal" => Ok(Verb::Seal),
+            b"share" => Ok(Verb::Share),
+            b"take" => Ok(Verb::Take),
+            b"dispute" => Ok(Verb::Dispute),
+            b"look" => Ok(Verb::Look),
+            b"next" => Ok(Verb::Next),
+            b"open" => Ok(Verb::Open),
+            b"advance" => Ok(Verb::Advance),
+            b"free" => Ok(Verb::Free),
+            b"floor" => Ok(Verb::Floor),
+            _ => Err(LineFault::BadLine),
+        }
     }
 }

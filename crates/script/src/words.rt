@@ -25,6 +25,7 @@ pub(crate) fn split_once(bytes: &[u8], separator: u8) -> Option<(&[u8], &[u8])>
     Some((&bytes[..n], &bytes[n + 1..]))
 }
 
+// No sign, and no zero before other digits.
 fn is_plain(word: &[u8]) -> bool
     ensures { IsTrue result ↔ IsPlain word.now }
 {
