@@ -1,2 +1,3 @@
 pub mod Hexed
+pub mod Opened
 pub mod ToGo

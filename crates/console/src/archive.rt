@@ -1,8 +1,18 @@
 // An archive and its sender, and what they answer to the calls of a script.
-ghost use Rattle.std.specs.Prelude.{◌++◌, codes, decimal, OnOk};
+ghost use Rattle.std.specs.Prelude.{◌≡◌, ◌++◌, codes, decimal, string_bytes, OnOk};
+ghost use Rattle.copy_bytes.specs.declared.named.Accepted.TheVariants.{ShareOrExport};
+ghost use Rattle.copy_bytes.specs.CopyBytes.{read_copy};
+ghost use Rattle.opening.specs.Open.{unsealed, open_output};
+ghost use Rattle.ratchet.specs.declared.copies.Holding.TheVariants.{Disputed};
 ghost use Rattle.ratchet.specs.Ids.{id_number};
-ghost use Rattle.store.specs.Meaning.{looked, nexted};
-ghost use Rattle.console.specs.Lines.{Adds, look_line, next_line};
+ghost use Rattle.ratchet.specs.Join.{join, raised};
+ghost use Rattle.store.specs.Meaning.{looked, nexted, room, answer, taken};
+ghost use Rattle.store.specs.Numbers.{store_number};
+ghost use Rattle.intake.specs.Numbers.{take_number};
+ghost use Rattle.intake.specs.Taking.{bytes_answer, bytes_taken};
+ghost use Rattle.sending.specs.Numbers.{seal_number, share_number};
+ghost use Rattle.sending.specs.Sender.{new_sender, message, seal_answer, seal_output, after_seal, shared, share_answer, share_output};
+ghost use Rattle.console.specs.Lines.{Adds, accepted, written, written_front, look_line, next_line, open_line, opened_front, sender_line, sender_now, advance_line, moved_line};
 
 use crate::answers::{Hex, Refusal};
 use crate::desk::{Desk, front};
@@ -12,6 +22,7 @@ use copy_bytes::named::{Accepted, NamedCopy};
 use copy_bytes::reading::read_copy;
 use intake::taking::take_bytes;
 use opening::open::open;
+use opening::unseal::{OpenRefusal, Opened};
 use ratchet::advance::advance;
 use ratchet::copies::Holding;
 use ratchet::ids::Id;
@@ -29,9 +40,14 @@ pub(crate) struct Archive<S, P: Suite> {
 }
 
 // A call's word before its refusal, since no refusal knows the call.
-fn add_taken(out: &mut String, word: &str, taken: Result<(), Refusal>) -> Result<(), AllocError> {
+fn add_taken(out: &mut String, word: &str, taken: Result<(), Refusal>) -> Result<(), AllocError>
+    ensures { OnOk result (string_bytes out.new ≡ string_bytes out.old ++ (word.now ++ accepted (λ r. r.0) taken)) }
+{
     out.push_str(word)?;
-    taken.or_else(|refusal| write!(out, " {refusal}"))
+    match taken {
+        Ok(()) => Ok(()),
+        Err(refusal) => write!(out, " {refusal}"),
+    }
 }
 
 // A call's word before what it wrote to the output, or before its refusal.
@@ -39,7 +55,10 @@ fn add_written(
     desk: &mut Desk,
     word: &str,
     written: Result<usize, Refusal>,
-) -> Result<(), AllocError> {
+) -> Result<(), AllocError>
+    ensures line { OnOk result (Adds desk.old (word.now ++ written_front (λ r. r.0) written desk.old.output.items) desk.new) }
+    ensures output { desk.new.output ≡ desk.old.output }
+{
     desk.answers.push_str(word)?;
     match written {
         Ok(n) => write!(desk.answers, " {}", Hex(front(&desk.output, n))),
@@ -47,8 +66,25 @@ fn add_written(
     }
 }
 
+// A message that was opened: its index, the hashes of the advance, and the text in front of the output.
+#[tactic(auto, unfolding(crate::specs::Lines::opened_front))]
+fn add_opened(desk: &mut Desk, opened: Result<Opened, OpenRefusal>) -> Result<(), AllocError>
+    ensures line { OnOk result (Adds desk.old (codes "open" ++ opened_front opened desk.old.output.items) desk.new) }
+    ensures output { desk.new.output ≡ desk.old.output }
+{
+    match opened {
+        Ok(opened) => {
+            let text = Hex(front(&desk.output, opened.size));
+            write!(desk.answers, "open {} {} {text}", opened.index, opened.hashes)
+        }
+        Err(refusal) => write!(desk.answers, "open {}", Refusal::of(refusal)),
+    }
+}
+
 // The hashes to a target, and the copy there.
-fn moved<P: Suite>(bytes: &[u8], target: u32) -> Result<(u32, NamedCopy<P>), Refusal> {
+fn moved<P: Suite>(bytes: &[u8], target: u32) -> Result<(u32, NamedCopy<P>), Refusal>
+    ensures { advance_line P.suite (read_copy P.suite ShareOrExport bytes.now) target ≡ moved_line P.suite result }
+{
     let named = read_copy(bytes, Accepted::ShareOrExport).map_err(Refusal::of)?;
     let there = advance(named.copy, target).map_err(Refusal::of)?;
     Ok((
@@ -61,12 +97,18 @@ fn moved<P: Suite>(bytes: &[u8], target: u32) -> Result<(u32, NamedCopy<P>), Ref
 }
 
 impl<P: Suite, S: Store<Id, Holding<P>>> Archive<S, P> {
-    fn take(&mut self, copy: &[u8], desk: &mut Desk) -> Result<(), AllocError> {
+    fn take(&mut self, copy: &[u8], desk: &mut Desk) -> Result<(), AllocError>
+        ensures line { OnOk result (Adds desk.old (codes "take" ++ accepted take_number (bytes_answer P.suite (S.means self.old.store) copy.now)) desk.new) }
+        ensures store { S.means self.new.store ≡ bytes_taken P.suite (S.means self.old.store) copy.now }
+    {
         let taken = take_bytes(&mut self.store, copy).map_err(Refusal::of);
         add_taken(&mut desk.answers, "take", taken)
     }
 
-    fn dispute(&mut self, id: Id, desk: &mut Desk) -> Result<(), AllocError> {
+    fn dispute(&mut self, id: Id, desk: &mut Desk) -> Result<(), AllocError>
+        ensures line { OnOk result (Adds desk.old (codes "dispute" ++ accepted store_number (answer (room id_number (S.means self.old.store) id))) desk.new) }
+        ensures store { S.means self.new.store ≡ taken id_number (join P.suite) (raised P.suite) (S.means self.old.store) id Disputed }
+    {
         let taken = self.store.take(id, Holding::Disputed);
         add_taken(&mut desk.answers, "dispute", taken.map_err(Refusal::of))
     }
@@ -89,15 +131,12 @@ impl<P: Suite, S: Store<Id, Holding<P>>> Archive<S, P> {
         }
     }
 
-    fn open(&self, id: Id, message: &[u8], desk: &mut Desk) -> Result<(), AllocError> {
-        desk.answers.push_str("open")?;
-        match open(&self.store, id, message, &mut desk.output) {
-            Ok(opened) => {
-                let text = Hex(front(&desk.output, opened.size));
-                write!(desk.answers, " {} {} {text}", opened.index, opened.hashes)
-            }
-            Err(refusal) => write!(desk.answers, " {}", Refusal::of(refusal)),
-        }
+    fn open(&self, id: Id, message: &[u8], desk: &mut Desk) -> Result<(), AllocError>
+        ensures line { OnOk result (Adds desk.old (codes "open" ++ open_line (unsealed P.suite (looked id_number (S.means self.now.store) id) message.now) desk.old.output.items) desk.new) }
+        ensures output { OnOk result (desk.new.output.items ≡ open_output (unsealed P.suite (looked id_number (S.means self.now.store) id) message.now) desk.old.output.items) }
+    {
+        let opened = open(&self.store, id, message, &mut desk.output);
+        add_opened(desk, opened)
     }
 
     fn free(&self, desk: &mut Desk) -> Result<(), AllocError>
@@ -113,7 +152,10 @@ impl<P: Suite, S: Store<Id, Holding<P>>> Archive<S, P> {
     }
 
     // The space limits no advance, which writes no output.
-    fn advance(&self, bytes: &[u8], target: u32, desk: &mut Desk) -> Result<(), AllocError> {
+    fn advance(&self, bytes: &[u8], target: u32, desk: &mut Desk) -> Result<(), AllocError>
+        ensures line { OnOk result (Adds desk.old (codes "advance" ++ advance_line P.suite (read_copy P.suite ShareOrExport bytes.now) target) desk.new) }
+        ensures output { desk.new.output ≡ desk.old.output }
+    {
         desk.answers.push_str("advance")?;
         match moved::<P>(bytes, target) {
             Ok((hashes, named)) => write!(desk.answers, " {hashes} {}", Export(named)),
@@ -121,7 +163,11 @@ impl<P: Suite, S: Store<Id, Holding<P>>> Archive<S, P> {
         }
     }
 
-    fn start(&mut self, id: Id, start: &[u8], desk: &mut Desk) -> Result<(), AllocError> {
+    fn start(&mut self, id: Id, start: &[u8], desk: &mut Desk) -> Result<(), AllocError>
+        ensures line { OnOk result (Adds desk.old (codes "sender" ++ sender_line (new_sender P.suite id start.now)) desk.new) }
+        ensures sender { OnOk result (self.new.sender ≡ sender_now self.old.sender (new_sender P.suite id start.now)) }
+        ensures output { desk.new.output ≡ desk.old.output }
+    {
         desk.answers.push_str("sender")?;
         match Sender::new(id, start) {
             Ok(sender) => {
@@ -135,12 +181,19 @@ impl<P: Suite, S: Store<Id, Holding<P>>> Archive<S, P> {
 }
 
 // What a sender answers.
-fn seal<P: Suite>(sender: &mut Sender<P>, text: &[u8], desk: &mut Desk) -> Result<(), AllocError> {
+fn seal<P: Suite>(sender: &mut Sender<P>, text: &[u8], desk: &mut Desk) -> Result<(), AllocError>
+    ensures line { OnOk result (Adds desk.old (codes "seal" ++ written seal_number (seal_answer P.suite sender.old text.now desk.old.output.items) (message P.suite sender.old text.now)) desk.new) }
+    ensures output { desk.new.output.items ≡ seal_output P.suite sender.old text.now desk.old.output.items }
+    ensures sender { sender.new ≡ after_seal P.suite sender.old text.now desk.old.output.items }
+{
     let written = sender.seal(text, &mut desk.output);
     add_written(desk, "seal", written.map_err(Refusal::of))
 }
 
-fn share<P: Suite>(sender: &Sender<P>, index: u32, desk: &mut Desk) -> Result<(), AllocError> {
+fn share<P: Suite>(sender: &Sender<P>, index: u32, desk: &mut Desk) -> Result<(), AllocError>
+    ensures line { OnOk result (Adds desk.old (codes "share" ++ written share_number (share_answer P.suite sender.now index desk.old.output.items) (shared P.suite sender.now index)) desk.new) }
+    ensures output { desk.new.output.items ≡ share_output P.suite sender.now index desk.old.output.items }
+{
     let written = sender.share(index, &mut desk.output);
     add_written(desk, "share", written.map_err(Refusal::of))
 }
