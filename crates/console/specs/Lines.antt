@@ -29,6 +29,10 @@ use Rattle.script.specs.Words.{hex_word}
 abbrev pub Adds : Desk → List ℕ → Desk → Type 0
 Adds old line new = string_bytes new.answers ≡ string_bytes old.answers ++ line
 
+-- the same by a call that leaves what it was offered for its output
+abbrev pub Says : Desk → List ℕ → Desk → Type 0
+Says old line new = Adds old line new × (new.output ≡ old.output)
+
 -- a refusal, by its number
 abbrev pub refused : ℕ → List ℕ
 refused n = codes " refused " ++ decimal n

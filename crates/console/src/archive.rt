@@ -12,7 +12,7 @@ ghost use Rattle.intake.specs.Numbers.{take_number};
 ghost use Rattle.intake.specs.Taking.{bytes_answer, bytes_taken};
 ghost use Rattle.sending.specs.Numbers.{seal_number, share_number};
 ghost use Rattle.sending.specs.Sender.{new_sender, message, seal_answer, seal_output, after_seal, shared, share_answer, share_output};
-ghost use Rattle.console.specs.Lines.{Adds, accepted, written, written_front, look_line, next_line, open_line, opened_front, sender_line, sender_now, advance_line, moved_line};
+ghost use Rattle.console.specs.Lines.{Adds, Says, accepted, written, written_front, look_line, next_line, open_line, opened_front, sender_line, sender_now, advance_line, moved_line};
 
 use crate::answers::{Hex, Refusal};
 use crate::desk::{Desk, front};
@@ -98,23 +98,25 @@ fn moved<P: Suite>(bytes: &[u8], target: u32) -> Result<(u32, NamedCopy<P>), Ref
 
 impl<P: Suite, S: Store<Id, Holding<P>>> Archive<S, P> {
     fn take(&mut self, copy: &[u8], desk: &mut Desk) -> Result<(), AllocError>
-        ensures line { OnOk result (Adds desk.old (codes "take" ++ accepted take_number (bytes_answer P.suite (S.means self.old.store) copy.now)) desk.new) }
+        ensures says { OnOk result (Says desk.old (codes "take" ++ accepted take_number (bytes_answer P.suite (S.means self.old.store) copy.now)) desk.new) }
         ensures store { S.means self.new.store ≡ bytes_taken P.suite (S.means self.old.store) copy.now }
+        ensures sender { self.new.sender ≡ self.old.sender }
     {
         let taken = take_bytes(&mut self.store, copy).map_err(Refusal::of);
         add_taken(&mut desk.answers, "take", taken)
     }
 
     fn dispute(&mut self, id: Id, desk: &mut Desk) -> Result<(), AllocError>
-        ensures line { OnOk result (Adds desk.old (codes "dispute" ++ accepted store_number (answer (room id_number (S.means self.old.store) id))) desk.new) }
+        ensures says { OnOk result (Says desk.old (codes "dispute" ++ accepted store_number (answer (room id_number (S.means self.old.store) id))) desk.new) }
         ensures store { S.means self.new.store ≡ taken id_number (join P.suite) (raised P.suite) (S.means self.old.store) id Disputed }
+        ensures sender { self.new.sender ≡ self.old.sender }
     {
         let taken = self.store.take(id, Holding::Disputed);
         add_taken(&mut desk.answers, "dispute", taken.map_err(Refusal::of))
     }
 
     fn look(&self, id: Id, desk: &mut Desk) -> Result<(), AllocError>
-        ensures { OnOk result (Adds desk.old (look_line P.suite (looked id_number (S.means self.now.store) id)) desk.new) }
+        ensures { OnOk result (Says desk.old (look_line P.suite (looked id_number (S.means self.now.store) id)) desk.new) }
     {
         match self.store.look(id) {
             Some(holding) => write!(desk.answers, "look{}", Shown(holding)),
@@ -123,7 +125,7 @@ impl<P: Suite, S: Store<Id, Holding<P>>> Archive<S, P> {
     }
 
     fn next(&self, last: Option<Id>, desk: &mut Desk) -> Result<(), AllocError>
-        ensures { OnOk result (Adds desk.old (next_line P.suite (nexted id_number (S.means self.now.store) last)) desk.new) }
+        ensures { OnOk result (Says desk.old (next_line P.suite (nexted id_number (S.means self.now.store) last)) desk.new) }
     {
         match self.store.next(&last) {
             Some((id, holding)) => write!(desk.answers, "next {}{}", Name(id), Shown(holding)),
@@ -140,21 +142,20 @@ impl<P: Suite, S: Store<Id, Holding<P>>> Archive<S, P> {
     }
 
     fn free(&self, desk: &mut Desk) -> Result<(), AllocError>
-        ensures { OnOk result (Adds desk.old (codes "free " ++ decimal (S.means self.now.store).places) desk.new) }
+        ensures { OnOk result (Says desk.old (codes "free " ++ decimal (S.means self.now.store).places) desk.new) }
     {
         write!(desk.answers, "free {}", self.store.free())
     }
 
     fn floor(&self, desk: &mut Desk) -> Result<(), AllocError>
-        ensures { OnOk result (Adds desk.old (codes "floor " ++ decimal (S.means self.now.store).floor) desk.new) }
+        ensures { OnOk result (Says desk.old (codes "floor " ++ decimal (S.means self.now.store).floor) desk.new) }
     {
         write!(desk.answers, "floor {}", self.store.floor())
     }
 
     // The space limits no advance, which writes no output.
     fn advance(&self, bytes: &[u8], target: u32, desk: &mut Desk) -> Result<(), AllocError>
-        ensures line { OnOk result (Adds desk.old (codes "advance" ++ advance_line P.suite (read_copy P.suite ShareOrExport bytes.now) target) desk.new) }
-        ensures output { desk.new.output ≡ desk.old.output }
+        ensures { OnOk result (Says desk.old (codes "advance" ++ advance_line P.suite (read_copy P.suite ShareOrExport bytes.now) target) desk.new) }
     {
         desk.answers.push_str("advance")?;
         match moved::<P>(bytes, target) {
@@ -164,9 +165,9 @@ impl<P: Suite, S: Store<Id, Holding<P>>> Archive<S, P> {
     }
 
     fn start(&mut self, id: Id, start: &[u8], desk: &mut Desk) -> Result<(), AllocError>
-        ensures line { OnOk result (Adds desk.old (codes "sender" ++ sender_line (new_sender P.suite id start.now)) desk.new) }
+        ensures says { OnOk result (Says desk.old (codes "sender" ++ sender_line (new_sender P.suite id start.now)) desk.new) }
         ensures sender { OnOk result (self.new.sender ≡ sender_now self.old.sender (new_sender P.suite id start.now)) }
-        ensures output { desk.new.output ≡ desk.old.output }
+        ensures store { self.new.store ≡ self.old.store }
     {
         desk.answers.push_str("sender")?;
         match Sender::new(id, start) {
@@ -199,6 +200,13 @@ fn share<P: Suite>(sender: &Sender<P>, index: u32, desk: &mut Desk) -> Result<()
 }
 
 impl<P: Suite, S: Store<Id, Holding<P>>> Serves for Archive<S, P> {
+    ghost use Rattle.std.specs.Prelude.{◌≡◌};
+    ghost use Rattle.console.specs.Serving.{said, store_after, sender_after, output_after};
+
+    ghost says = { λ a out call. said P.suite (record { store = S.means a.store; sender = a.sender; output = out }) call };
+
+    ghost leaves = { λ a out call b new. (S.means b.store ≡ store_after P.suite (record { store = S.means a.store; sender = a.sender; output = out }) call) × (b.sender ≡ sender_after P.suite (record { store = S.means a.store; sender = a.sender; output = out }) call) × (new ≡ output_after P.suite (record { store = S.means a.store; sender = a.sender; output = out }) call) };
+
     fn serve(&mut self, call: Call, desk: &mut Desk) -> Result<(), LineFault> {
         match call {
             Call::Sender(id, start) => self.start(id, &start, desk)?,
@@ -228,6 +236,12 @@ impl<P: Suite, S: Store<Id, Holding<P>>> Serves for Archive<S, P> {
 pub(crate) struct NoArchive;
 
 impl Serves for NoArchive {
+    ghost use Rattle.std.specs.Prelude.{◌≡◌, None};
+
+    ghost says = { λ _ _ _. None };
+
+    ghost leaves = { λ a out _ b new. (b ≡ a) × (new ≡ out) };
+
     fn serve(&mut self, _call: Call, _desk: &mut Desk) -> Result<(), LineFault> {
         Err(LineFault::BadLine)
     }

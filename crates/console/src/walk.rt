@@ -1,7 +1,9 @@
 // The walk over the lines of a script.
-ghost use Rattle.std.specs.Prelude.{◌≡◌, IfOk, Err, OnSome};
+ghost use Rattle.std.specs.Prelude.{◌≡◌, ℕ, List, [], ◌∷◌, ◌++◌, IfOk, Err, Option, None, OnOk, OnSome, IsSomeAnd};
+ghost use Rattle.script.specs.declared.commands.Call.{Call};
 ghost use Rattle.script.specs.declared.fault.LineFault.TheVariants.{BadLine};
 ghost use Rattle.script.specs.Script.{IsShorter};
+ghost use Rattle.console.specs.Lines.{Adds};
 
 use crate::desk::Desk;
 use script::commands::{Call, Command, Plan, read_command};
@@ -13,10 +15,19 @@ use std::io::Write;
 
 // Who does the calls of a script and puts their answers down.
 pub(crate) trait Serves {
+    // What a call says, without its newline, by what it is offered for its output; none where it is a bad line.
+    ghost says: { Self → List ℕ → Call → Option (List ℕ) };
+
+    // What a call leaves: the server, and the output.
+    ghost leaves: { Self → List ℕ → Call → Self → List ℕ → Type 0 };
+
     // A bad line alters nothing.
     fn serve(&mut self, call: Call, desk: &mut Desk) -> Result<(), LineFault>
+        ensures bad { result ≡ Err BadLine → says self.old desk.old.output.items call ≡ None }
         ensures server { result ≡ Err BadLine → self.new ≡ self.old }
-        ensures desk { result ≡ Err BadLine → desk.new ≡ desk.old };
+        ensures desk { result ≡ Err BadLine → desk.new ≡ desk.old }
+        ensures says { OnOk result (IsSomeAnd (says self.old desk.old.output.items call) (λ line. Adds desk.old (line ++ (10 ∷ [])) desk.new)) }
+        ensures leaves { OnOk result (leaves self.old desk.old.output.items call self.new desk.new.output.items) };
 }
 
 fn set_space(desk: &mut Desk, space: usize) -> Result<(), AllocError> {
