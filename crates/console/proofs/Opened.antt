@@ -1,5 +1,5 @@
 -- What is printed of an opened message, by the answer and the output that it left.
-use Rattle.std.proofs.Common.{◌≡◌, ℕ, Bool, true, false, cond, List, ◌∷◌, ◌++◌, length, take, drop, decimal, Ok, Err, Result, refl, sym, ap, ◌∙◌, OnOk, codes}
+use Rattle.std.proofs.Common.{◌≡◌, ℕ, Bool, true, false, cond, List, ◌∷◌, ◌++◌, length, drop, decimal, Ok, Err, Result, refl, sym, ap, ◌∙◌, OnOk, codes}
 use Rattle.std.proofs.lemmas.List.{take_at}
 use Rattle.std.proofs.lemmas.Result.{on_ok_weaker}
 use Rattle.ratchet.specs.Bytes.{laid}
@@ -10,11 +10,12 @@ use Rattle.opening.specs.declared.unseal.OpenRefusal.TheVariants.{TooSmall}
 use Rattle.opening.specs.Numbers.{open_number}
 use Rattle.opening.specs.Open.{Unsealed, told, opened, open_output}
 use Rattle.script.specs.Words.{hex_word}
-use Rattle.console.specs.Lines.{refused, open_line, opened_front}
+use Rattle.console.specs.Fronts.{opened_front}
+use Rattle.console.specs.Lines.{refused, open_line}
 
 fitting : (u : Unsealed) (out : List ℕ) (b : Bool)
     → cond b ((32 ∷ decimal u.index) ++ ((32 ∷ decimal u.hashes) ++ (32 ∷ hex_word u.text))) (refused (open_number TooSmall))
-        ≡ opened_front (cond b (told (Ok u)) (Err TooSmall)) (cond b (laid u.text out) out)
+    ≡ opened_front (cond b (told (Ok u)) (Err TooSmall)) (cond b (laid u.text out) out)
 unfolding opened_front
 fitting u out true =
     ap (λ text. (32 ∷ decimal u.index) ++ ((32 ∷ decimal u.hashes) ++ (32 ∷ hex_word text)))

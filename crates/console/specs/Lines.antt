@@ -1,5 +1,5 @@
 -- What each call prints, without the newline.
-use Rattle.std.specs.Prelude.{◌≡◌, ℕ, List, [], ◌∷◌, ◌++◌, Some, None, Ok, Err, cond, codes, decimal, Option, Result, string_bytes, take}
+use Rattle.std.specs.Prelude.{◌≡◌, ℕ, List, [], ◌∷◌, ◌++◌, Some, None, Ok, Err, cond, codes, decimal, Option, Result, string_bytes}
 use Rattle.ratchet.specs.declared.copies.Holding.{Holding}
 use Rattle.ratchet.specs.declared.ids.Id.{Id}
 use Rattle.ratchet.specs.Ids.{id_bytes}
@@ -15,13 +15,11 @@ use Rattle.copy_bytes.specs.CopyBytes.{copy_bytes}
 use Rattle.copy_bytes.specs.Numbers.{copy_number}
 use Rattle.copy_bytes.specs.Output.{fits}
 use Rattle.sending.specs.Sender.{Session, current_index}
-use Rattle.opening.specs.declared.unseal.Opened.{Opened}
 use Rattle.opening.specs.declared.unseal.OpenRefusal.{OpenRefusal}
 use Rattle.opening.specs.declared.unseal.OpenRefusal.TheVariants.{TooSmall}
 use Rattle.opening.specs.Numbers.{open_number}
 use Rattle.opening.specs.Open.{Unsealed}
 use Rattle.console.specs.declared.desk.Desk.{Desk}
-use Rattle.console.specs.declared.answers.Refusal.{Refusal}
 use Rattle.console.specs.Shown.{shown_holding}
 use Rattle.script.specs.Words.{hex_word}
 
@@ -47,11 +45,6 @@ abbrev pub written : {E : Type 0} → (E → ℕ) → Result ℕ E → List ℕ 
 written number (Ok n) bs = 32 ∷ hex_word bs
 written number (Err e) bs = refused (number e)
 
--- the same, by the output in front of which they stand
-abbrev pub written_front : {E : Type 0} → (E → ℕ) → Result ℕ E → List ℕ → List ℕ
-written_front number (Ok n) out = 32 ∷ hex_word (take n out)
-written_front number (Err e) out = refused (number e)
-
 abbrev pub look_line : {P : Type 0} → Meaning P → Option (Holding P) → List ℕ
 look_line m None = codes "look none"
 look_line m (Some h) = codes "look" ++ shown_holding m h
@@ -64,11 +57,6 @@ next_line m (Some e) = codes "next" ++ ((32 ∷ hex_word (id_bytes e.0)) ++ show
 unfoldable pub open_line : Result Unsealed OpenRefusal → List ℕ → List ℕ
 open_line (Ok u) out = cond (fits u.text out) ((32 ∷ decimal u.index) ++ ((32 ∷ decimal u.hashes) ++ (32 ∷ hex_word u.text))) (refused (open_number TooSmall))
 open_line (Err e) out = refused (open_number e)
-
--- the same, by the output in front of which the text stands
-unfoldable pub opened_front : Result Opened OpenRefusal → List ℕ → List ℕ
-opened_front (Ok o) out = (32 ∷ decimal o.index) ++ ((32 ∷ decimal o.hashes) ++ (32 ∷ hex_word (take o.size out)))
-opened_front (Err e) out = refused (open_number e)
 
 -- the index of a new sender
 abbrev pub sender_line : {P : Type 0} → Result (Session P) CopyFault → List ℕ
@@ -90,8 +78,3 @@ module _ {P : Type 0} (m : Meaning P) where
   abbrev pub advance_line : Result (NamedCopy P) CopyFault → ℕ → List ℕ
   advance_line (Ok n) target = reached_line n.id (advanced m.hash n.copy target)
   advance_line (Err e) target = refused (copy_number e)
-
-  -- the same, by what reading and advancing give
-  abbrev pub moved_line : Result (ℕ × NamedCopy P) Refusal → List ℕ
-  moved_line (Ok there) = (32 ∷ decimal there.0) ++ (32 ∷ hex_word (copy_bytes m Export there.1))
-  moved_line (Err refusal) = refused refusal.0

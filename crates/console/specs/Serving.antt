@@ -1,5 +1,5 @@
 -- What each call of a script says, and what it leaves.
-use Rattle.std.specs.Prelude.{ℕ, List, ◌++◌, Some, None, Option, codes, decimal, vec_items}
+use Rattle.std.specs.Prelude.{ℕ, List, ◌++◌, Some, Option, codes, decimal, vec_items}
 use Rattle.std.specs.Option.{option_map, option_map_or}
 use Rattle.ratchet.specs.declared.copies.Holding.{Holding}
 use Rattle.ratchet.specs.declared.copies.Holding.TheVariants.{Disputed}
@@ -56,3 +56,6 @@ module _ {P : Type 0} (m : SuiteMeaning P) (d : Served P) where
   output_after (Share i) = option_map_or (λ s. share_output m s i d.output) d.sender d.output
   output_after (Open k bs) = open_output (unsealed m (looked id_number d.store k) (vec_items bs)) d.output
   output_after _ = d.output
+
+  abbrev pub after : Call → Served P
+  after call = record { store = store_after call; sender = sender_after call; output = output_after call }

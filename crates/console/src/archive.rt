@@ -12,7 +12,8 @@ ghost use Rattle.intake.specs.Numbers.{take_number};
 ghost use Rattle.intake.specs.Taking.{bytes_answer, bytes_taken};
 ghost use Rattle.sending.specs.Numbers.{seal_number, share_number};
 ghost use Rattle.sending.specs.Sender.{new_sender, message, seal_answer, seal_output, after_seal, shared, share_answer, share_output};
-ghost use Rattle.console.specs.Lines.{Adds, Says, accepted, written, written_front, look_line, next_line, open_line, opened_front, sender_line, sender_now, advance_line, moved_line};
+ghost use Rattle.console.specs.Fronts.{written_front, opened_front, moved_line};
+ghost use Rattle.console.specs.Lines.{Adds, Says, accepted, written, look_line, next_line, open_line, sender_line, sender_now, advance_line};
 
 use crate::answers::{Hex, Refusal};
 use crate::desk::{Desk, front};
@@ -56,7 +57,7 @@ fn add_written(
     word: &str,
     written: Result<usize, Refusal>,
 ) -> Result<(), AllocError>
-    ensures line { OnOk result (Adds desk.old (word.now ++ written_front (λ r. r.0) written desk.old.output.items) desk.new) }
+    ensures line { OnOk result (Adds desk.old (word.now ++ written_front written desk.old.output.items) desk.new) }
     ensures output { desk.new.output ≡ desk.old.output }
 {
     desk.answers.push_str(word)?;
@@ -67,7 +68,7 @@ fn add_written(
 }
 
 // A message that was opened: its index, the hashes of the advance, and the text in front of the output.
-#[tactic(auto, unfolding(crate::specs::Lines::opened_front))]
+#[tactic(auto, unfolding(crate::specs::Fronts::opened_front))]
 fn add_opened(desk: &mut Desk, opened: Result<Opened, OpenRefusal>) -> Result<(), AllocError>
     ensures line { OnOk result (Adds desk.old (codes "open" ++ opened_front opened desk.old.output.items) desk.new) }
     ensures output { desk.new.output ≡ desk.old.output }
@@ -75,7 +76,11 @@ fn add_opened(desk: &mut Desk, opened: Result<Opened, OpenRefusal>) -> Result<()
     match opened {
         Ok(opened) => {
             let text = Hex(front(&desk.output, opened.size));
-            write!(desk.answers, "open {} {} {text}", opened.index, opened.hashes)
+            write!(
+                desk.answers,
+                "open {} {} {text}",
+                opened.index, opened.hashes
+            )
         }
         Err(refusal) => write!(desk.answers, "open {}", Refusal::of(refusal)),
     }
@@ -201,11 +206,11 @@ fn share<P: Suite>(sender: &Sender<P>, index: u32, desk: &mut Desk) -> Result<()
 
 impl<P: Suite, S: Store<Id, Holding<P>>> Serves for Archive<S, P> {
     ghost use Rattle.std.specs.Prelude.{◌≡◌};
-    ghost use Rattle.console.specs.Serving.{said, store_after, sender_after, output_after};
+    ghost use Rattle.console.specs.Serving.{said, after};
 
-    ghost says = { λ a out call. said P.suite (record { store = S.means a.store; sender = a.sender; output = out }) call };
+    ghost says = { λ a out. said P.suite (record { store = S.means a.store; sender = a.sender; output = out }) };
 
-    ghost leaves = { λ a out call b new. (S.means b.store ≡ store_after P.suite (record { store = S.means a.store; sender = a.sender; output = out }) call) × (b.sender ≡ sender_after P.suite (record { store = S.means a.store; sender = a.sender; output = out }) call) × (new ≡ output_after P.suite (record { store = S.means a.store; sender = a.sender; output = out }) call) };
+    ghost leaves = { λ a out call b new. record { store = S.means b.store; sender = b.sender; output = new } ≡ after P.suite (record { store = S.means a.store; sender = a.sender; output = out }) call };
 
     fn serve(&mut self, call: Call, desk: &mut Desk) -> Result<(), LineFault> {
         match call {

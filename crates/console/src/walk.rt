@@ -1,9 +1,12 @@
 // The walk over the lines of a script.
-ghost use Rattle.std.specs.Prelude.{◌≡◌, ℕ, List, [], ◌∷◌, ◌++◌, IfOk, Err, Option, None, OnOk, OnSome, IsSomeAnd};
+ghost use Rattle.std.specs.Prelude.{◌≡◌, ℕ, true, false, List, IfOk, Ok, Err, Option, None, OnOk, OnSome, IsSomeAnd, vec_len};
 ghost use Rattle.script.specs.declared.commands.Call.{Call};
 ghost use Rattle.script.specs.declared.fault.LineFault.TheVariants.{BadLine};
+ghost use Rattle.script.specs.declared.commands.Command.{Command};
+ghost use Rattle.script.specs.Commands.{command_line};
 ghost use Rattle.script.specs.Script.{IsShorter};
 ghost use Rattle.console.specs.Lines.{Adds};
+ghost use Rattle.console.specs.Walking.{silent, ended, space_line, Done, Answered};
 
 use crate::desk::Desk;
 use script::commands::{Call, Command, Plan, read_command};
@@ -26,20 +29,22 @@ pub(crate) trait Serves {
         ensures bad { result ≡ Err BadLine → says self.old desk.old.output.items call ≡ None }
         ensures server { result ≡ Err BadLine → self.new ≡ self.old }
         ensures desk { result ≡ Err BadLine → desk.new ≡ desk.old }
-        ensures says { OnOk result (IsSomeAnd (says self.old desk.old.output.items call) (λ line. Adds desk.old (line ++ (10 ∷ [])) desk.new)) }
+        ensures says { OnOk result (IsSomeAnd (says self.old desk.old.output.items call) (λ line. Adds desk.old (ended line) desk.new)) }
         ensures leaves { OnOk result (leaves self.old desk.old.output.items call self.new desk.new.output.items) };
 }
 
-fn set_space(desk: &mut Desk, space: usize) -> Result<(), AllocError> {
+fn set_space(desk: &mut Desk, space: usize) -> Result<(), AllocError>
+    ensures { OnOk result ((vec_len desk.new.output ≡ space) × Adds desk.old (ended (space_line space)) desk.new) }
+{
     desk.offer(space)?;
     writeln!(desk.answers, "space {space}")
 }
 
-fn obey<S: Serves>(
-    line: &[u8],
-    server: &mut S,
-    desk: &mut Desk,
-) -> Result<Option<Plan>, LineFault> {
+fn obey<S: Serves>(line: &[u8], server: &mut S, desk: &mut Desk) -> Result<Option<Plan>, LineFault>
+    ensures done { IfOk result (λ plan. (c : Command) × (line.now ≡ command_line c) × Done S.says S.leaves c server.old desk.old plan server.new desk.new) }
+    ensures server { result ≡ Err BadLine → server.new ≡ server.old }
+    ensures desk { result ≡ Err BadLine → desk.new ≡ desk.old }
+{
     match read_command(desk.heap, line)? {
         Command::Archive(plan) => return Ok(Some(plan)),
         Command::Space(space) => set_space(desk, space)?,
@@ -49,7 +54,9 @@ fn obey<S: Serves>(
 }
 
 // Empty lines and comments say nothing.
-fn is_silent(line: &[u8]) -> bool {
+fn is_silent(line: &[u8]) -> bool
+    ensures { result ≡ silent line.now }
+{
     matches!(line, [] | [b'#', ..])
 }
 
@@ -58,7 +65,10 @@ fn answer<S: Serves>(
     number: u64,
     server: &mut S,
     desk: &mut Desk,
-) -> Result<Option<Plan>, AllocError> {
+) -> Result<Option<Plan>, AllocError>
+    ensures silent { silent line.now ≡ true → (result ≡ Ok None) × (server.new ≡ server.old) × (desk.new ≡ desk.old) }
+    ensures answered { silent line.now ≡ false → IfOk result (λ plan. Answered S.says S.leaves line.now number server.old desk.old plan server.new desk.new) }
+{
     if is_silent(line) {
         return Ok(None);
     }

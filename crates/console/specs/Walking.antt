@@ -1,0 +1,36 @@
+-- What a line of a script does, by what the calls of a server say and leave.
+use Rattle.std.specs.Prelude.{◌≡◌, ℕ, Bool, true, List, [], ◌∷◌, ◌++◌, Some, None, Option, IsSomeAnd, codes, decimal, ◌==◌, vec_len, ◌⊎◌}
+use Rattle.script.specs.declared.commands.Call.{Call as AnyCall}
+use Rattle.script.specs.declared.commands.Command.{Command}
+use Rattle.script.specs.declared.commands.Command.TheVariants.{Archive, Space, Call}
+use Rattle.script.specs.declared.commands.Plan.{Plan}
+use Rattle.script.specs.Commands.{command_line}
+use Rattle.console.specs.declared.desk.Desk.{Desk}
+use Rattle.console.specs.Lines.{Adds}
+
+-- empty lines and comments
+abbrev pub silent : List ℕ → Bool
+silent [] = true
+silent (b ∷ bs) = b == 35
+
+abbrev pub ended : List ℕ → List ℕ
+ended line = line ++ (10 ∷ [])
+
+abbrev pub space_line : ℕ → List ℕ
+space_line n = codes "space " ++ decimal n
+
+abbrev pub bad_line : ℕ → List ℕ
+bad_line number = codes "bad line " ++ decimal number
+
+module _ {S : Type 0} (says : S → List ℕ → AnyCall → Option (List ℕ)) (leaves : S → List ℕ → AnyCall → S → List ℕ → Type 0) where
+  -- an archive is asked for, the space is set, or a call is served
+  abbrev pub Done : Command → S → Desk → Option Plan → S → Desk → Type 0
+  Done (Archive p) s d plan t e = (plan ≡ Some p) × (t ≡ s) × (e ≡ d)
+  Done (Space n) s d plan t e = (plan ≡ None) × (t ≡ s) × (vec_len e.output ≡ n) × Adds d (ended (space_line n)) e
+  Done (Call c) s d plan t e = (plan ≡ None) × leaves s d.output.items c t e.output.items × IsSomeAnd (says s d.output.items c) (λ line. Adds d (ended line) e)
+
+  -- a line is done as a command that is written so, or called bad
+  abbrev pub Answered : List ℕ → ℕ → S → Desk → Option Plan → S → Desk → Type 0
+  Answered line number s d plan t e =
+      ((c : Command) × (line ≡ command_line c) × Done c s d plan t e)
+      ⊎ ((plan ≡ None) × (t ≡ s) × (e.output ≡ d.output) × Adds d (ended (bad_line number)) e)
