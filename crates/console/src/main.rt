@@ -1,8 +1,10 @@
 // Reads a script of calls on standard input, and prints every answer.
 #![tactic(auto)]
 
-ghost use Rattle.std.specs.Prelude.{IfOk, OnSome};
+ghost use Rattle.std.specs.Prelude.{◌≡◌, IfOk, OnOk, OnSome, vec_len};
 ghost use Rattle.script.specs.Script.{IsShorter};
+ghost use Rattle.console.specs.Lines.{Adds};
+ghost use Rattle.console.specs.Walking.{ended, archive_line};
 
 mod answers;
 mod archive;
@@ -19,11 +21,21 @@ use ratchet::ids::Id;
 use ratchet::suite::Suite;
 use script::commands::Plan;
 use script::lines::Script;
+use std::alloc::AllocError;
 use std::io;
 use std::io::{Read, Write};
 use store::meaning::Store;
 use tables::table::Table;
 use walk::Session;
+
+// What is said of a new archive; its calls are offered the most space.
+fn greet<P: Suite, S: Store<Id, Holding<P>>>(store: &S, desk: &mut Desk) -> Result<(), AllocError>
+    ensures line { OnOk result (Adds desk.old (ended (archive_line (S.means store.now))) desk.new) }
+    ensures space { OnOk result (vec_len desk.new.output ≡ 1048576) }
+{
+    desk.offer(MOST_SPACE)?;
+    writeln!(desk.answers, "archive {} {}", store.free(), store.floor())
+}
 
 // Answers over a new archive, up to the next one or the end.
 fn serve_over<P: Suite, S: Store<Id, Holding<P>> + Drop, W: Write>(
@@ -32,9 +44,7 @@ fn serve_over<P: Suite, S: Store<Id, Holding<P>> + Drop, W: Write>(
 ) -> io::Result<Option<Plan>>
     ensures { IfOk result (λ o. OnSome o (IsShorter session.new.script session.old.script)) }
 {
-    let desk = &mut session.desk;
-    desk.offer(MOST_SPACE)?;
-    writeln!(desk.answers, "archive {} {}", store.free(), store.floor())?;
+    greet(&store, &mut session.desk)?;
     let mut archive = Archive {
         store,
         sender: None,
