@@ -107,6 +107,7 @@ pub fn read_frame<P: Suite>(message: &[u8]) -> Result<Frame<'_, P>, FrameFault>
 }
 
 // A message is read as it was laid out.
+#[tactic(auto, using(crate::proofs::Frames::read_back))]
 pub fn frame_law<P: Suite>()
     ensures { FrameLaw P.suite }
 {}

@@ -34,6 +34,7 @@ pub fn read_varint(bytes: &[u8]) -> Option<(u32, usize)>
 }
 
 // Every varint has one form, and it is read again.
+#[tactic(auto, using(crate::proofs::Varints::varint_laws_lem))]
 pub fn varint_laws()
     ensures { VarintLaws }
 {}

@@ -4,7 +4,7 @@ use Rattle.std.specs.Result.{result_map_both}
 use Rattle.ratchet.specs.declared.copies.SessionCopy.{SessionCopy}
 use Rattle.ratchet.specs.declared.ids.Id.{Id}
 use Rattle.ratchet.specs.Bytes.{laid}
-use Rattle.ratchet.specs.Suite.{Meaning}
+use Rattle.ratchet.specs.Suite.{Meaning, Parts, parts}
 use Rattle.ratchet.specs.Ratchet.{steps}
 use Rattle.copy_bytes.specs.declared.named.CopyFault.{CopyFault}
 use Rattle.copy_bytes.specs.declared.named.Version.TheVariants.{Share}
@@ -16,11 +16,15 @@ use Rattle.sending.specs.declared.sender.ShareRefusal.{ShareRefusal}
 use Rattle.sending.specs.declared.sender.ShareRefusal.TheVariants.{TooSmall as NoRoom, Ahead}
 use Rattle.message.specs.Seal.{sealed}
 
--- a sender: its session's id, its copy at index 0, and how many indices are used up from there on, each by one message
+-- a sender: its session's id, its four parts at index 0, and how many indices are used up from there on, each by one message
 pub record Session (P : Type 0) : Type 0 where
   pub id : Id
-  pub start : SessionCopy P
+  pub start : Parts P
   pub used : ℕ
+
+-- four parts as the copy at index 0
+abbrev pub origin : {P : Type 0} → Parts P → SessionCopy P
+origin k = record { index = 0; r0 = k.p0; r1 = k.p1; r2 = k.p2; r3 = k.p3 }
 
 -- the length of bytes that were written, or the refusal of an output that is too small
 abbrev pub answered_or : {E : Type 0} → E → List ℕ → List ℕ → Result ℕ E
@@ -42,11 +46,11 @@ module _ {P : Type 0} where
   module _ (m : Meaning P) where
     -- four parts make a sender that has sealed nothing
     abbrev pub new_sender : Id → List ℕ → Result (Session P) CopyFault
-    new_sender id bs = result_map_both (λ c. record { id = id; start = c; used = 0 }) (λ e. e) (read_start m bs)
+    new_sender id bs = result_map_both (λ c. record { id = id; start = parts c; used = 0 }) (λ e. e) (read_start m bs)
 
     -- the start, stepped singly to an index
     abbrev pub reached : Session P → ℕ → SessionCopy P
-    reached s index = steps m.hash index s.start
+    reached s index = steps m.hash index (origin s.start)
 
     -- what is sealed next for a text
     abbrev pub message : Session P → List ℕ → List ℕ

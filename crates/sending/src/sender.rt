@@ -26,14 +26,15 @@ impl<P: Suite> Model for Sender<P> {
     ghost use Rattle.std.specs.Prelude.{◌≡◌, ◌^◌, IfSome};
     ghost use Rattle.std.specs.Option.{option_map_or};
     ghost use Rattle.ratchet.specs.Ratchet.{steps};
-    ghost use Rattle.sending.specs.Sender.{Session};
+    ghost use Rattle.ratchet.specs.Suite.{parts};
+    ghost use Rattle.sending.specs.Sender.{Session, origin};
 
     ghost Value = { Session P };
 
-    ghost view = { λ s. record { id = s.id; start = s.start; used = option_map_or (λ c. c.index) s.next (2 ^ 32) } };
+    ghost view = { λ s. record { id = s.id; start = parts s.start; used = option_map_or (λ c. c.index) s.next (2 ^ 32) } };
 
-    // The next copy is the start, stepped singly to its index.
-    ghost invariant = { λ s. (s.start.index ≡ 0) × IfSome s.next (λ c. c ≡ steps P.suite.hash c.index s.start) };
+    // The start has index 0, and the next copy is the start, stepped singly to its index.
+    ghost invariant = { λ s. (s.start ≡ origin (parts s.start)) × IfSome s.next (λ c. c ≡ steps P.suite.hash c.index s.start) };
 }
 
 // Why a text is not sealed, by its number. Flat, a small output taken over by `From`: a number is a discriminant.
@@ -95,7 +96,7 @@ impl From<SpaceRefusal> for ShareRefusal {
 
 impl<P: Suite> Sender<P> {
     // A sender that has sealed nothing, from the bytes of its four parts at index 0.
-    #[tactic(auto, using(crate::proofs::Senders::start_index))]
+    #[tactic(auto, using(crate::proofs::Senders::start_origin))]
     pub fn new(id: Id, start: &[u8]) -> Result<Sender<P>, CopyFault>
         ensures { result ≡ new_sender P.suite id start.now }
     {
