@@ -1,5 +1,7 @@
 -- The layout of a message, and what reading one answers.
 use Rattle.std.specs.Prelude.{◌≡◌, ℕ, ◌+◌, ◌^◌, ◌<◌, ◌≤◌, Bool, true, cond, ◌&&◌, List, [], ◌∷◌, ◌++◌, length, take, drop, Some, None, Ok, Err, Option, Result, ◌==◌, nat_le, slice_index}
+use Rattle.std.specs.List.{AllByRecursion}
+use Rattle.ratchet.specs.Bytes.{Byte}
 use Rattle.ratchet.specs.Suite.{Meaning}
 use Rattle.message.specs.declared.frame.FrameFault.{FrameFault}
 use Rattle.message.specs.declared.frame.FrameFault.TheVariants.{Start, Index, Cipher, Length}
@@ -54,8 +56,17 @@ indexed m bs (Some (index, k)) = cipher_at m bs index (2 + k)
 unfoldable pub framed : {P : Type 0} → Meaning P → List ℕ → Result Framed FrameFault
 framed m bs = cond (starts m bs) (indexed m bs (keyed 8 (drop 1 bs))) (Err Start)
 
--- a message is read as it was laid out
-abbrev pub FrameLaw : {P : Type 0} → Meaning P → Type 0
-FrameLaw m =
-    (index : ℕ) (cipher tag : List ℕ) → index < 2 ^ 32 → m.allowed (length cipher) ≡ true → length cipher ≤ 4112 → length tag ≡ 8
-    → framed m (message_bytes m index cipher tag) ≡ Ok (record { index = index; body = body m index cipher; cipher = cipher; tag = tag })
+-- a message lays out the parts that it tells
+pub record LaysOut {P : Type 0} (m : Meaning P) (bs : List ℕ) (f : Framed) : Type 0 where
+  pub whole : message_bytes m f.index f.cipher f.tag ≡ bs
+  pub tagged : body m f.index f.cipher ≡ f.body
+  pub small : f.index < 2 ^ 32
+  pub allowed : m.allowed (length f.cipher) ≡ true
+  pub tag_size : length f.tag ≡ 8
+  pub short : length bs ≤ 4130
+
+pub record FrameLaws {P : Type 0} (m : Meaning P) : Type 0 where
+  -- a message is read as it was laid out
+  pub back : (bs : List ℕ) (f : Framed) → LaysOut m bs f → framed m bs ≡ Ok f
+  -- and nothing else is a message
+  pub forth : (bs : List ℕ) (f : Framed) → AllByRecursion Byte bs → framed m bs ≡ Ok f → LaysOut m bs f

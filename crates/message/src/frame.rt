@@ -1,5 +1,5 @@
 ghost use Rattle.std.specs.Prelude.{◌≡◌, ◌<◌, ◌≤◌, length, IfSome};
-ghost use Rattle.message.specs.Frame.{keyed, starts, cipher_at, framed, FrameLaw};
+ghost use Rattle.message.specs.Frame.{keyed, starts, cipher_at, framed, FrameLaws};
 ghost use Rattle.message.specs.Numbers.{frame_number};
 
 use crate::varint::read_varint;
@@ -106,8 +106,8 @@ pub fn read_frame<P: Suite>(message: &[u8]) -> Result<Frame<'_, P>, FrameFault>
     read_cipher::<P>(message, index, 2 + k)
 }
 
-// A message is read as it was laid out.
-#[tactic(auto, using(crate::proofs::Frames::read_back))]
-pub fn frame_law<P: Suite>()
-    ensures { FrameLaw P.suite }
+// A message is read as it was laid out, and nothing else is read.
+#[tactic(auto, using(crate::proofs::LaidOut::frame_laws_lem))]
+pub fn frame_laws<P: Suite>()
+    ensures { FrameLaws P.suite }
 {}

@@ -11,9 +11,9 @@ use Rattle.ratchet.specs.Cost.{cost}
 use Rattle.ratchet.specs.Ratchet.{steps}
 use Rattle.ratchet.specs.Suite.{Meaning, Lawful, parts}
 use Rattle.ratchet.proofs.Steps.{steps_add, steps_index}
-use Rattle.message.specs.Frame.{body, Framed, framed}
+use Rattle.message.specs.Frame.{body, Framed, framed, LaysOut}
 use Rattle.message.specs.Seal.{sealed}
-use Rattle.message.proofs.Frames.{read_back}
+use Rattle.message.proofs.Frames.{read_as_laid, message_size}
 use Rattle.copy_bytes.specs.Output.{filled}
 use Rattle.opening.specs.declared.unseal.Opened.{Opened}
 use Rattle.opening.specs.declared.unseal.OpenRefusal.{OpenRefusal}
@@ -47,8 +47,16 @@ opens {P} m laws start i k text origin le small short bytes =
     let a : Advanced P = record { copy = d; hashes = cost i k } in
     let lengths = laws.lengths (parts d) text short in
     let e = at_step m start origin k in
-    let read = read_back m d.index cipher tag (omega arith) lengths.0 lengths.1 (laws.tagged (parts d) bs) in
-    unsealed_is m shown (sealed m d text) f a read (ap (held_at m shown) e ∙ held_there m start origin i k le)
+    let eight = laws.tagged (parts d) bs in
+    let laid : LaysOut m (sealed m d text) f = record {
+      whole = refl;
+      tagged = refl;
+      small = omega arith;
+      allowed = lengths.0;
+      tag_size = eight;
+      short = message_size m d.index cipher tag (omega arith) lengths.1 eight;
+    } in
+    unsealed_is m shown (sealed m d text) f a (read_as_laid m (sealed m d text) f laid) (ap (held_at m shown) e ∙ held_there m start origin i k le)
     ∙ cond-true _ _ _ ((bytes_eq-Decides tag tag).1 refl) ∙ ap (texted m f a) (laws.deciphers (parts d) text short bytes)
     ∙ ap (λ (x : ℕ). Ok (record { text = text; index = x; hashes = cost i k })) e
 
