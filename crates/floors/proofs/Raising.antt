@@ -45,10 +45,10 @@ module _ {K V : Type 0} (rank : K → ℕ) (join : V → V → V) (raise : ℕ �
       let g = m.floor in
       let w = raise g (raise f v) in
       let x = raise (max f g) v in
-      let swap : w ≡ raise f (raise g v) = laws.twice g f v ∙ ap (λ n. raise n v) (omega arith) ∙ sym (laws.twice f g v) in
-      let both : raise f (raise g v) ≡ x = laws.twice f g v in
-      let again : raise f w ≡ x = laws.twice f g (raise f v) ∙ laws.twice (max f g) f v ∙ ap (λ n. raise n v) (omega arith) in
-      let joins : (a : V) → raise f (join a w) ≡ join (raise f a) x = λ a. ap (λ y. raise f (join a y)) swap ∙ laws.under f a (raise g v) ∙ ap (join (raise f a)) both in
+      let swap : w ≡ raise f (raise g v) = laws.raises.twice g f v ∙ ap (λ n. raise n v) (omega arith) ∙ sym (laws.raises.twice f g v) in
+      let both : raise f (raise g v) ≡ x = laws.raises.twice f g v in
+      let again : raise f w ≡ x = laws.raises.twice f g (raise f v) ∙ laws.raises.twice (max f g) f v ∙ ap (λ n. raise n v) (omega arith) in
+      let joins : (a : V) → raise f (join a w) ≡ join (raise f a) x = λ a. ap (λ y. raise f (join a y)) swap ∙ laws.raises.under f a (raise g v) ∙ ap (join (raise f a)) both in
       let puts = each_put rank (raise f) join m.entries k w x again joins in
       elim (cases_Bool (room rank m k)) [
         | inl y ↦ rw (held_same, y) (ap (of (max f g) (cond (is_some (looked rank m k)) m.places (m.places - 1))) puts)

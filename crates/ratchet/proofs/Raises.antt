@@ -79,7 +79,7 @@ module _ {P : Type 0} (m : Meaning P) (laws : Lawful m) where
   raise_join f (Held a) Disputed h = refl
   raise_join f Disputed y h = refl
 
-  pub raise_laws_lem : RaiseLaws m
+  pub raise_laws_lem : RaiseLaws (join m) (raised m)
   raise_laws_lem = record {
     none = λ x. raised_same m 0 x (least_zero x);
     twice = raised_raised m;

@@ -1,23 +1,20 @@
--- The laws of the ratchet, of joining and of raising, for every suite.
+-- The bound of an advance's hashes, and the laws of joining and raising.
 use Rattle.std.specs.Prelude.{◌≡◌, ℕ, ◌^◌, ◌<◌, ◌≤◌, max}
-use Rattle.ratchet.specs.declared.copies.Holding.{Holding}
-use Rattle.ratchet.specs.Suite.{Meaning}
 use Rattle.ratchet.specs.Cost.{cost}
-use Rattle.ratchet.specs.Join.{join, raised}
 
 -- within the indices an advance costs at most 1,026 hashes
 abbrev pub AdvanceCost : Type 0
 AdvanceCost = (c t : ℕ) → c ≤ t → t < 2 ^ 32 → cost c t ≤ 1026
 
-pub record JoinLaws {P : Type 0} (m : Meaning P) : Type 0 where
-  pub assoc : (x y z : Holding P) → join m (join m x y) z ≡ join m x (join m y z)
-  pub comm : (x y : Holding P) → join m x y ≡ join m y x
-  pub idem : (x : Holding P) → join m x x ≡ x
+pub record JoinLaws {V : Type 0} (join : V → V → V) : Type 0 where
+  pub assoc : (a b c : V) → join (join a b) c ≡ join a (join b c)
+  pub comm : (a b : V) → join a b ≡ join b a
+  pub idem : (a : V) → join a a ≡ a
 
-pub record RaiseLaws {P : Type 0} (m : Meaning P) : Type 0 where
+pub record RaiseLaws {V : Type 0} (join : V → V → V) (raise : ℕ → V → V) : Type 0 where
   -- at floor 0 nothing is raised
-  pub none : (x : Holding P) → raised m 0 x ≡ x
+  pub none : (a : V) → raise 0 a ≡ a
   -- raising twice is raising to the higher floor
-  pub twice : (f g : ℕ) (x : Holding P) → raised m f (raised m g x) ≡ raised m (max f g) x
+  pub twice : (f g : ℕ) (a : V) → raise f (raise g a) ≡ raise (max f g) a
   -- what is raised already may be joined before the other is raised, or after
-  pub under : (f : ℕ) (x y : Holding P) → raised m f (join m x (raised m f y)) ≡ join m (raised m f x) (raised m f y)
+  pub under : (f : ℕ) (a b : V) → raise f (join a (raise f b)) ≡ join (raise f a) (raise f b)

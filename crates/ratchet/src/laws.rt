@@ -1,6 +1,7 @@
 ghost use Rattle.std.specs.Prelude.{◌≡◌};
 ghost use Rattle.std.specs.Ordering.{nat_cmp};
 ghost use Rattle.ratchet.specs.Ids.{id_number};
+ghost use Rattle.ratchet.specs.Join.{join, raised};
 ghost use Rattle.ratchet.specs.Laws.{AdvanceCost, JoinLaws, RaiseLaws};
 
 use crate::ids::Id;
@@ -22,10 +23,10 @@ pub fn advance_cost()
 
 // Joining is associative, commutative and idempotent.
 pub fn join_laws<P: Suite>()
-    ensures { JoinLaws P.suite }
+    ensures { JoinLaws (join P.suite) }
 {}
 
 // Raising twice, and raising against joining.
 pub fn raise_laws<P: Suite>()
-    ensures { RaiseLaws P.suite }
+    ensures { RaiseLaws (join P.suite) (raised P.suite) }
 {}

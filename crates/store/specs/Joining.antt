@@ -12,10 +12,7 @@ use Rattle.store.specs.Laws.{ValueLaws}
 use Rattle.store.specs.Sightings.{join_sightings, unraised}
 
 pub holding_laws : {P : Type 0} (m : Meaning P) → Lawful m → ValueLaws (join m) (raised m)
-holding_laws m l =
-    let j = join_laws_lem m l in
-    let r = raise_laws_lem m l in
-    record { assoc = j.assoc; comm = j.comm; idem = j.idem; none = r.none; twice = r.twice; under = r.under }
+holding_laws m l = record { joins = join_laws_lem m l; raises = raise_laws_lem m l }
 
 assoc : (a b c : Sighting) → join_sightings (join_sightings a b) c ≡ join_sightings a (join_sightings b c)
 assoc (Event a) (Event b) (Event c) = grind (arith, nat_tests)
@@ -34,4 +31,7 @@ idem (Event a) = grind (arith, nat_tests)
 idem Repeated = refl
 
 pub sighting_laws : ValueLaws join_sightings unraised
-sighting_laws = record { assoc = assoc; comm = comm; idem = idem; none = λ a. refl; twice = λ f g a. refl; under = λ f a b. refl }
+sighting_laws = record {
+  joins = record { assoc = assoc; comm = comm; idem = idem };
+  raises = record { none = λ a. refl; twice = λ f g a. refl; under = λ f a b. refl };
+}

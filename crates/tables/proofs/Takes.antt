@@ -136,7 +136,7 @@ module _ {K V : Type 0} (rank : K → ℕ) (join : V → V → V) (raise : ℕ �
         record {
           answer = rw f;
           after =
-              rw (f, laws.none v, val)
+              rw (f, laws.raises.none v, val)
               (of_both _ _ _ _ (joined_at rank join s i (Some e) e.0 k e.1 v p.0 (sym read) (eqb-true _ _ hits) p.2) n);
           refused = λ no. absurd (let z : Ok tt ≡ Err NoPlace = no in cc);
         }
@@ -153,7 +153,7 @@ module _ {K V : Type 0} (rank : K → ℕ) (join : V → V → V) (raise : ℕ �
         let rest : count_by is_none (set s i (Some (k, v))) ≡ count_by is_none s - 1 = omega arith in
         record {
           answer = rw (f, room);
-          after = rw (f, room, laws.none v, val) (of_both _ _ _ _ (entered_at rank join s i None k v p.0 (sym read) a) rest);
+          after = rw (f, room, laws.raises.none v, val) (of_both _ _ _ _ (entered_at rank join s i None k v p.0 (sym read) a) rest);
           refused = λ no. absurd (let z : Ok tt ≡ Err NoPlace = no in cc);
         }
 
