@@ -4,16 +4,12 @@ use Rattle.std.specs.Option.{option_map}
 use Rattle.std.proofs.lemmas.Bool.{cases_Bool}
 use Rattle.store.specs.declared.refusal.StoreRefusal.{StoreRefusal}
 use Rattle.store.specs.Laws.{ValueLaws}
-use Rattle.store.specs.Maps.{found, beyond, put, each, first}
+use Rattle.store.specs.Maps.{beyond, put, each, first}
 use Rattle.store.specs.Meaning.{Meaning, answer, looked, room, taken}
-use Rattle.store.proofs.Lookups.{is_some_mapped}
+use Rattle.store.proofs.Lookups.{is_some_mapped, each_found}
 use Rattle.floors.specs.Floors.{floored}
 
 module _ {K V : Type 0} (rank : K → ℕ) (f : V → V) where
-  pub each_found : (m : List (K × V)) (k : K) → found rank (each f m) k ≡ option_map f (found rank m k)
-  each_found [] k = refl
-  each_found (e ∷ m) k = elim (cases_Bool (eqb (rank e.0) (rank k))) [ inl y ↦ rw y | inr y ↦ rw y (each_found m k) ]
-
   pub each_first : (m : List (K × V)) (o : Option K) → first (beyond rank (each f m) o) ≡ option_map (λ e. (e.0, f e.1)) (first (beyond rank m o))
   each_first [] None = refl
   each_first (e ∷ m) None = refl

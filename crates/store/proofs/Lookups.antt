@@ -18,6 +18,10 @@ module _ {K V : Type 0} (rank : K → ℕ) where
   each_rising f n [] r = tt
   each_rising f n (e ∷ m) r = (r.0, each_rising f (suc (rank e.0)) m r.1)
 
+  pub each_found : (f : V → V) (m : List (K × V)) (k : K) → found rank (each f m) k ≡ option_map f (found rank m k)
+  each_found f [] k = refl
+  each_found f (e ∷ m) k = elim (cases_Bool (eqb (rank e.0) (rank k))) [ inl y ↦ rw y | inr y ↦ rw y (each_found f m k) ]
+
   pub rising_low : (n p : ℕ) (m : List (K × V)) → p ≤ n → Rising rank n m → Rising rank p m
   rising_low n p [] le r = tt
   rising_low n p (e ∷ m) le r = (omega arith, r.1)

@@ -1,6 +1,6 @@
 use Rattle.std.proofs.Common.{◌≡◌, option_map, sym, ◌∙◌, rules}
 use Rattle.store.specs.Meaning.{looked}
-use Rattle.floors.proofs.Raising.{each_found}
+use Rattle.store.proofs.Lookups.{each_found}
 use Rattle.floors.proofs.layer.FloorLayerStore.look.Goals as goal
 
 pub returns : goal.returns
