@@ -1,5 +1,6 @@
 // Answers that are not written out yet, and the memory that calls are offered for their output.
-ghost use Rattle.std.specs.Prelude.{◌≡◌, ◌<◌, [], take, IfOk, vec_len, string_bytes, string_len, OnOk};
+ghost use Rattle.std.specs.Prelude.{◌≡◌, ℕ, ◌<◌, List, [], ◌++◌, take, IfOk, vec_len, string_bytes, string_len, OnOk};
+ghost use Rattle.std.specs.Io.KnownBytes.{Appends};
 
 use std::alloc::{AllocError, Global};
 use std::io;
@@ -37,7 +38,8 @@ impl Desk {
         self.output.resize(space, 0)
     }
 
-    pub(crate) fn write_out(&mut self, sink: &mut impl Write) -> io::Result<()>
+    pub(crate) fn write_out<W: Write>(&mut self, sink: &mut W) -> io::Result<()>
+        ensures sink { OnOk result (Appends (W.contents sink.old) (W.contents sink.new) (string_bytes self.old.answers)) }
         ensures answers { OnOk result (string_bytes self.new.answers ≡ []) }
         ensures output { self.new.output ≡ self.old.output }
     {
@@ -47,7 +49,8 @@ impl Desk {
     }
 
     // Writes out once a piece is gathered.
-    pub(crate) fn write_piece(&mut self, sink: &mut impl Write) -> io::Result<()>
+    pub(crate) fn write_piece<W: Write>(&mut self, sink: &mut W) -> io::Result<()>
+        ensures sink { OnOk result ((bs : List ℕ) × Appends (W.contents sink.old) (W.contents sink.new) bs × (string_bytes self.old.answers ≡ bs ++ string_bytes self.new.answers)) }
         ensures answers { OnOk result (string_len self.new.answers < 65536) }
         ensures output { self.new.output ≡ self.old.output }
     {

@@ -1,4 +1,4 @@
--- The words that commands begin with.
+-- For private contracts: the words that commands begin with.
 use Rattle.std.specs.Prelude.{ℕ, List, codes}
 use Rattle.script.specs.declared.verbs.Verb.{Verb}
 use Rattle.script.specs.declared.verbs.Verb.TheVariants.{Archive, Space, Sender, Seal, Share, Take, Dispute, Look, Next, Open, Advance, Free, Floor}
