@@ -47,6 +47,10 @@ pub id_back : (k : Id) → id_of (id_bytes k) ≡ k
 unfolding id_of id_bytes
 id_back k = id_path (id_of (id_bytes k)) k (word_back k.w0 k.fits0) (word_back k.w1 k.fits1) (word_back k.w2 k.fits2) (word_back k.w3 k.fits3)
 
+-- k elements from a place on, and what lies behind them
+pub cut : (i k j : ℕ) (bs : List ℕ) {ys : List ℕ} → i + k ≡ j → drop j bs ≡ ys → drop i bs ≡ take k (drop i bs) ++ ys
+cut i k j bs n e = sym (take-append-drop k (drop i bs)) ∙ ap (λ ys. take k (drop i bs) ++ ys) (drop-drop k i bs ∙ ap (λ n. drop n bs) n ∙ e)
+
 module _ (bs : List ℕ) (long : length bs ≡ 32) (bytes : AllByRecursion Byte bs) where
   word_forth : (i : ℕ) → i + 8 ≤ 32 → be 8 (word (drop i bs)) ≡ take 8 (drop i bs)
   word_forth i h =
@@ -55,9 +59,6 @@ module _ (bs : List ℕ) (long : length bs ≡ 32) (bytes : AllByRecursion Byte 
       let u : AllBelowBase 256 xs = All-take Byte 8 (drop i bs) (All-drop Byte i bs bytes) in
       ap (be 8) (mod-eq_of_lt (rw l at (number_lt 256 xs u))) ∙ be_number 8 xs l u
 
-  cut : (i : ℕ) {ys : List ℕ} → drop (i + 8) bs ≡ ys → drop i bs ≡ take 8 (drop i bs) ++ ys
-  cut i e = sym (take-append-drop 8 (drop i bs)) ∙ ap (λ ys. take 8 (drop i bs) ++ ys) (drop-drop 8 i bs ∙ e)
-
   last : drop 24 bs ≡ take 8 (drop 24 bs)
   last = sym (take_all 8 (drop 24 bs) (simp length-drop (omega arith)))
 
@@ -65,7 +66,7 @@ module _ (bs : List ℕ) (long : length bs ≡ 32) (bytes : AllByRecursion Byte 
   unfolding id_of id_bytes
   id_forth =
       (λ i. word_forth 0 (omega arith) i ++ (word_forth 8 (omega arith) i ++ (word_forth 16 (omega arith) i ++ word_forth 24 (omega arith) i)))
-      ∙ sym (cut 0 (cut 8 (cut 16 last)))
+      ∙ sym (cut 0 8 8 bs refl (cut 8 8 16 bs refl (cut 16 8 24 bs refl last)))
 
 -- a word's bytes behind a number
 digits : (a d0 d1 d2 d3 d4 d5 d6 d7 : ℕ)

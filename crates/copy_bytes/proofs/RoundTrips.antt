@@ -1,5 +1,5 @@
 -- Copy bytes there and back, both ways.
-use Rattle.std.proofs.Common.{◌≡◌, ℕ, ◌+◌, ◌*◌, ◌^◌, ◌<◌, ◌≤◌, Bool, true, false, cond, List, [], ◌∷◌, ◌++◌, length, get_or, take, drop, Ok, Err, Result, sym, refl, ap, ◌∙◌, append_assoc, mod-eq_of_lt, arith, length-append, length-drop, take-append-drop, length-take, drop-drop, take_at, drop_at}
+use Rattle.std.proofs.Common.{◌≡◌, ℕ, ◌+◌, ◌*◌, ◌^◌, ◌<◌, ◌≤◌, true, List, [], ◌∷◌, ◌++◌, length, get_or, take, drop, Ok, Result, sym, refl, ap, ◌∙◌, append_assoc, mod-eq_of_lt, arith, length-append, length-drop, length-take, take_at, drop_at}
 use Rattle.std.specs.Int.Digits.{number_from_digits}
 use Rattle.std.specs.List.{AllByRecursion}
 use Rattle.std.proofs.lemmas.Int.Digits.{number_lt}
@@ -19,20 +19,12 @@ use Rattle.copy_bytes.specs.declared.named.Accepted.{Accepted}
 use Rattle.copy_bytes.specs.declared.named.Accepted.TheVariants.{ShareOrExport, Export as ExportAlone}
 use Rattle.copy_bytes.specs.CopyBytes.{version_byte, accepts, part_bytes, copy_bytes, part_at, copy_of, named_of, read_copy, read_start}
 use Rattle.copy_bytes.specs.Laws.{CopyLaws}
+use Rattle.ratchet.proofs.Choices.{checked}
 use Rattle.copy_bytes.proofs.CopyBytes.{length_parts, length_copy, bytes_copy}
-use Rattle.copy_bytes.proofs.Ids.{id_back, id_forth}
-
--- what a test has let through
-checked : {X E : Type 0} (b : Bool) (r : Result X E) (f : E) (x : X) → cond b r (Err f) ≡ Ok x → (b ≡ true) × (r ≡ Ok x)
-checked true r f x h = (refl, h)
-checked false r f x h = let z : ◌≡◌ {A = ℕ} 0 1 = cc in absurd (omega arith)
+use Rattle.copy_bytes.proofs.Ids.{id_back, id_forth, cut}
 
 ok_is : {X E : Type 0} (x y : X) → ◌≡◌ {A = Result X E} (Ok x) (Ok y) → x ≡ y
 ok_is x y h = cc
-
--- k elements from a place on, and what lies behind them
-cut : (i k j : ℕ) (bs : List ℕ) {ys : List ℕ} → i + k ≡ j → drop j bs ≡ ys → drop i bs ≡ take k (drop i bs) ++ ys
-cut i k j bs n e = sym (take-append-drop k (drop i bs)) ∙ ap (λ ys. take k (drop i bs) ++ ys) (drop-drop k i bs ∙ ap (λ n. drop n bs) n ∙ e)
 
 flat : (a b c d e : List ℕ) → (a ++ (b ++ (c ++ d))) ++ e ≡ a ++ (b ++ (c ++ (d ++ e)))
 flat a b c d e = simp append_assoc

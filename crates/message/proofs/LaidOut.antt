@@ -1,26 +1,19 @@
 -- What is read of a message was laid out so.
-use Rattle.std.proofs.Common.{◌≡◌, ℕ, zero, suc, ◌+◌, ◌^◌, ◌<◌, ◌≤◌, Bool, true, cond, eqb, List, [], ◌∷◌, ◌++◌, length, take, drop, Some, None, Option, Ok, Err, sym, refl, ap, subst, add-one, ◌∙◌, arith}
-use Rattle.std.proofs.lemmas.Bool.{cond_both, eqb-true}
+use Rattle.std.proofs.Common.{◌≡◌, ℕ, suc, ◌+◌, ◌^◌, ◌<◌, ◌≤◌, true, eqb, List, [], ◌∷◌, ◌++◌, length, take, drop, Some, None, Option, Ok, sym, refl, ap, subst, add-one, ◌∙◌, arith}
+use Rattle.std.proofs.lemmas.Bool.{eqb-true}
 use Rattle.std.proofs.lemmas.Bool.Decides.{nat_tests}
 use Rattle.std.proofs.lemmas.List.{take-append-drop, length-take-le, length-drop}
 use Rattle.std.proofs.Math.Seq.{take-add}
 use Rattle.std.specs.List.{AllByRecursion}
+use Rattle.std.proofs.ByRecursion.{All-drop}
 use Rattle.ratchet.specs.Bytes.{Byte}
 use Rattle.ratchet.specs.Suite.{Meaning}
+use Rattle.ratchet.proofs.Choices.{passed, checked}
 use Rattle.message.specs.declared.frame.FrameFault.TheVariants.{Start, Cipher, Length}
 use Rattle.message.specs.Varint.{varint, read_varint}
 use Rattle.message.specs.Frame.{head, body, Framed, parted, keyed, starts, sized, cipher_at, indexed, framed, LaysOut, FrameLaws}
 use Rattle.message.proofs.Frames.{read_as_laid}
 use Rattle.message.proofs.Varints.{varint_laws_lem}
-
--- where a test chose what it would not have chosen else, it held
-passed : {A : Type 0} (b : Bool) (x y z : A) → (y ≡ z → ⊥) → cond b x y ≡ z → (b ≡ true) × (x ≡ z)
-passed b x y z other h = cond_both b x y (λ r. r ≡ z → (b ≡ true) × (x ≡ z)) (λ is e. (is, e)) (λ _ e. absurd (other e)) h
-
-all_drop : (n : ℕ) (bs : List ℕ) → AllByRecursion Byte bs → AllByRecursion Byte (drop n bs)
-all_drop zero bs h = h
-all_drop (suc n) [] h = h
-all_drop (suc n) (b ∷ bs) h = all_drop n bs h.1
 
 keyed_read : (key : ℕ) (bs : List ℕ) (v k : ℕ) → AllByRecursion Byte bs → keyed key bs ≡ Some (v, k) → (take (suc k) bs ≡ key ∷ varint v) × (v < 2 ^ 32)
 keyed_read key [] v k bytes h = cc
@@ -39,8 +32,8 @@ module _ {P : Type 0} (m : Meaning P) (bs : List ℕ) (f : Framed) where
   sized_read : (index at : ℕ) (o : Option (ℕ × ℕ)) → sized m bs index at o ≡ Ok f → (n : ℕ) × (k : ℕ) × (o ≡ Some (n, k)) × Sized index at n k
   sized_read index at None h = cc
   sized_read index at (Some (n, k)) h =
-      let t = passed (eqb (length bs) (at + 1 + k + n + 8)) (cond (m.allowed n) (Ok (parted bs index (at + 1 + k) n)) (Err Length)) (Err Cipher) (Ok f) (λ e. cc) h in
-      let u = passed (m.allowed n) (Ok (parted bs index (at + 1 + k) n)) (Err Length) (Ok f) (λ e. cc) t.1 in
+      let t = checked _ _ Cipher f h in
+      let u = checked _ _ Length f t.1 in
       (n, k, refl, record { long = eqb-true _ _ t.0; allowed = u.0; parts = cc })
 
   indexed_read : (o : Option (ℕ × ℕ)) → indexed m bs o ≡ Ok f → (index : ℕ) × (k : ℕ) × (o ≡ Some (index, k)) × (cipher_at m bs index (2 + k) ≡ Ok f)
@@ -79,13 +72,13 @@ unfolding framed
 read_laid m [] f bytes h = cc
 read_laid m (b ∷ rest) f bytes h =
     let bs = b ∷ rest in
-    let (so, after) = passed (starts m bs) (indexed m bs (keyed 8 rest)) (Err Start) (Ok f) (λ e. cc) h in
+    let (so, after) = checked (starts m bs) (indexed m bs (keyed 8 rest)) Start f h in
     let is : b ≡ m.message_byte = grind (arith, nat_tests) in
     let short : length bs ≤ 4130 = grind (arith, nat_tests) in
     let (index, k, i, at) = indexed_read m bs f (keyed 8 rest) after in
     let one = keyed_read 8 rest index k bytes.1 i in
     let (n, l, j, z) = sized_read m bs f index (2 + k) (keyed 18 (drop (2 + k) bs)) at in
-    let two = keyed_read 18 (drop (2 + k) bs) n l (all_drop (2 + k) bs bytes) j in
+    let two = keyed_read 18 (drop (2 + k) bs) n l (All-drop Byte (2 + k) bs bytes) j in
     subst (LaysOut m bs) {x = parted bs index (2 + k + 1 + l) n} z.parts
     (parted_so m bs index n (2 + k + 1 + l) (joined m b index n k l rest is one.0 two.0) z.long one.1 z.allowed short)
 

@@ -1,4 +1,5 @@
 pub mod Bytes
+pub mod Choices
 pub mod Fast
 pub mod Joins
 pub mod Passes
