@@ -2,7 +2,6 @@
 use Rattle.std.specs.Prelude.{◌≡◌, ℕ, List, [], ◌∷◌, ◌++◌, Some, None, Ok, Err, cond, codes, decimal, Option, Result, string_bytes}
 use Rattle.ratchet.specs.declared.copies.Holding.{Holding}
 use Rattle.ratchet.specs.declared.ids.Id.{Id}
-use Rattle.ratchet.specs.Ids.{id_bytes}
 use Rattle.ratchet.specs.Suite.{Meaning}
 use Rattle.ratchet.specs.declared.copies.Advanced.{Advanced}
 use Rattle.ratchet.specs.declared.copies.AdvanceRefusal.{AdvanceRefusal}
@@ -21,6 +20,7 @@ use Rattle.opening.specs.Numbers.{open_number}
 use Rattle.opening.specs.Open.{Unsealed}
 use Rattle.console.specs.declared.desk.Desk.{Desk}
 use Rattle.console.specs.Shown.{shown_holding}
+use Rattle.script.specs.Commands.{id_word}
 use Rattle.script.specs.Words.{hex_word}
 
 -- the line is put behind the answers on the desk
@@ -51,7 +51,7 @@ look_line m (Some h) = codes "look" ++ shown_holding m h
 
 abbrev pub next_line : {P : Type 0} → Meaning P → Option (Id × Holding P) → List ℕ
 next_line m None = codes "next none"
-next_line m (Some e) = codes "next" ++ ((32 ∷ hex_word (id_bytes e.0)) ++ shown_holding m e.1)
+next_line m (Some e) = codes "next" ++ ((32 ∷ id_word e.0) ++ shown_holding m e.1)
 
 -- the message's index, the hashes of the advance to it, and the text; it has to fit into the output
 unfoldable pub open_line : Result Unsealed OpenRefusal → List ℕ → List ℕ

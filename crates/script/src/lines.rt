@@ -45,13 +45,6 @@ impl<'a> Script<'a> {
         }
     }
 
-    // What is left to read.
-    pub fn rest(&self) -> Option<&'a [u8]>
-        ensures { option_map (λ x. x.now) result ≡ self.now.rest }
-    {
-        self.rest
-    }
-
     // How many lines were given out: the number of the last one.
     pub fn lines(&self) -> u64
         ensures { result ≡ self.now.lines }
