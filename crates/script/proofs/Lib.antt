@@ -2,3 +2,5 @@ pub mod Cuts
 pub mod Hex
 pub mod Ids
 pub mod Numbers
+pub mod Spaces
+pub mod Beginnings
