@@ -1,11 +1,11 @@
 -- What a line of a script does, by what the calls of a server say and leave.
-use Rattle.std.specs.Prelude.{◌≡◌, ℕ, Bool, true, List, [], ◌∷◌, ◌++◌, Some, None, Option, IsSomeAnd, codes, decimal, ◌==◌, vec_len, ◌⊎◌}
+use Rattle.std.specs.Prelude.{◌≡◌, ◌≢◌, ℕ, Bool, true, List, [], ◌∷◌, ◌++◌, Some, None, Option, IsSomeAnd, codes, decimal, ◌==◌, vec_len, ◌⊎◌}
 use Rattle.store.specs.Meaning.{Meaning}
 use Rattle.script.specs.declared.commands.Call.{Call as AnyCall}
 use Rattle.script.specs.declared.commands.Command.{Command}
 use Rattle.script.specs.declared.commands.Command.TheVariants.{Archive, Space, Call}
 use Rattle.script.specs.declared.commands.Plan.{Plan}
-use Rattle.script.specs.Commands.{command_line}
+use Rattle.script.specs.Commands.{call_line, command_line, LawfulCall, Lawful}
 use Rattle.console.specs.declared.desk.Desk.{Desk}
 use Rattle.console.specs.Lines.{Adds}
 
@@ -27,6 +27,12 @@ space_line n = codes "space " ++ decimal n
 abbrev pub bad_line : ℕ → List ℕ
 bad_line number = codes "bad line " ++ decimal number
 
+-- the line of no lawful command, or of a call for which the server says nothing
+abbrev pub Bad : {S : Type 0} → (S → List ℕ → AnyCall → Option (List ℕ)) → List ℕ → S → Desk → Type 0
+Bad says line s d =
+    ((c : Command) → Lawful c → line ≢ command_line c)
+    ⊎ ((c : AnyCall) × (line ≡ call_line c) × LawfulCall c × (says s d.output.items c ≡ None))
+
 module _ {S : Type 0} (says : S → List ℕ → AnyCall → Option (List ℕ)) (leaves : S → List ℕ → AnyCall → S → List ℕ → Type 0) where
   -- an archive is asked for, the space is set, or a call is served
   abbrev pub Done : Command → S → Desk → Option Plan → S → Desk → Type 0
@@ -34,8 +40,8 @@ module _ {S : Type 0} (says : S → List ℕ → AnyCall → Option (List ℕ)) 
   Done (Space n) s d plan t e = (plan ≡ None) × (t ≡ s) × (vec_len e.output ≡ n) × Adds d (ended (space_line n)) e
   Done (Call c) s d plan t e = (plan ≡ None) × leaves s d.output.items c t e.output.items × IsSomeAnd (says s d.output.items c) (λ line. Adds d (ended line) e)
 
-  -- a line is done as a command that is written so, or called bad
+  -- a line is done as a lawful command that is written so, or is bad and called so
   abbrev pub Answered : List ℕ → ℕ → S → Desk → Option Plan → S → Desk → Type 0
   Answered line number s d plan t e =
-      ((c : Command) × (line ≡ command_line c) × Done c s d plan t e)
-      ⊎ ((plan ≡ None) × (t ≡ s) × (e.output ≡ d.output) × Adds d (ended (bad_line number)) e)
+      ((c : Command) × (line ≡ command_line c) × Lawful c × Done c s d plan t e)
+      ⊎ (Bad says line s d × (plan ≡ None) × (t ≡ s) × (e.output ≡ d.output) × Adds d (ended (bad_line number)) e)

@@ -3,10 +3,10 @@ ghost use Rattle.std.specs.Prelude.{◌≡◌, ℕ, true, false, List, IfOk, Ok,
 ghost use Rattle.script.specs.declared.commands.Call.{Call};
 ghost use Rattle.script.specs.declared.fault.LineFault.TheVariants.{BadLine};
 ghost use Rattle.script.specs.declared.commands.Command.{Command};
-ghost use Rattle.script.specs.Commands.{command_line};
+ghost use Rattle.script.specs.Commands.{command_line, Lawful};
 ghost use Rattle.script.specs.Script.{IsShorter};
 ghost use Rattle.console.specs.Lines.{Adds};
-ghost use Rattle.console.specs.Walking.{silent, ended, space_line, Done, Answered};
+ghost use Rattle.console.specs.Walking.{silent, ended, space_line, Bad, Done, Answered};
 
 use crate::desk::Desk;
 use script::commands::{Call, Command, Plan, read_command};
@@ -41,7 +41,8 @@ fn set_space(desk: &mut Desk, space: usize) -> Result<(), AllocError>
 }
 
 fn obey<S: Serves>(line: &[u8], server: &mut S, desk: &mut Desk) -> Result<Option<Plan>, LineFault>
-    ensures done { IfOk result (λ plan. (c : Command) × (line.now ≡ command_line c) × Done S.says S.leaves c server.old desk.old plan server.new desk.new) }
+    ensures done { IfOk result (λ plan. (c : Command) × (line.now ≡ command_line c) × Lawful c × Done S.says S.leaves c server.old desk.old plan server.new desk.new) }
+    ensures bad { result ≡ Err BadLine → Bad S.says line.now server.old desk.old }
     ensures server { result ≡ Err BadLine → server.new ≡ server.old }
     ensures desk { result ≡ Err BadLine → desk.new ≡ desk.old }
 {

@@ -78,3 +78,10 @@ no_word w (b ∷ bs) dash none e = none (e ∙ long_word b bs)
 pub as_word : {V E : Type 0} (items : V → List ℕ) (r : Result V E) (bad : E) (w : List ℕ) → 0 < length w → (w ≡ 45 ∷ [] → ⊥) → MatchResult r (λ v. (w ≡ hex (items v)) × AllByRecursion Byte (items v)) (λ e. e ≡ bad → (bs : List ℕ) → AllByRecursion Byte bs → w ≢ hex bs) → MatchResult r (λ v. (w ≡ hex_word (items v)) × AllByRecursion Byte (items v)) (λ e. e ≡ bad → (bs : List ℕ) → AllByRecursion Byte bs → w ≢ hex_word bs)
 as_word items (Ok v) bad w some dash h = (word_is w (items v) some h.0, h.1)
 as_word items (Err e) bad w some dash h = λ is bs all. no_word w bs dash (h is bs all)
+
+-- words of 45 alone are one digit, and so shorter than those of bytes
+pub length_hex_word : (bs cs : List ℕ) → hex_word bs ≡ hex_word cs → length bs ≡ length cs
+length_hex_word [] [] e = refl
+length_hex_word [] (c ∷ cs) e = omega (arith, ap length (e ∙ long_word c cs), length-hex (c ∷ cs))
+length_hex_word (b ∷ bs) [] e = omega (arith, ap length (sym e ∙ long_word b bs), length-hex (b ∷ bs))
+length_hex_word (b ∷ bs) (c ∷ cs) e = omega (arith, ap length (sym (long_word b bs) ∙ e ∙ long_word c cs), length-hex (b ∷ bs), length-hex (c ∷ cs))

@@ -1,7 +1,12 @@
--- How each command is written.
-use Rattle.std.specs.Prelude.{ℕ, List, ◌∷◌, ◌++◌, Some, None, vec_items, codes, decimal}
+-- Which commands there are, and how each is written.
+use Rattle.std.specs.Prelude.{◌≡◌, ◌≢◌, ℕ, ◌^◌, ◌<◌, ◌≤◌, List, ◌∷◌, ◌++◌, Some, None, Result, MatchResult, vec_items, codes, decimal}
+use Rattle.std.specs.Global.{Vec}
+use Rattle.std.specs.List.{AllByRecursion}
+use Rattle.ratchet.specs.Bytes.{Byte}
 use Rattle.ratchet.specs.declared.ids.Id.{Id}
 use Rattle.ratchet.specs.Ids.{id_bytes}
+use Rattle.script.specs.declared.fault.LineFault.{LineFault}
+use Rattle.script.specs.declared.fault.LineFault.TheVariants.{BadLine}
 use Rattle.script.specs.declared.commands.Plan.{Plan}
 use Rattle.script.specs.declared.commands.Call.{Call as AnyCall}
 use Rattle.script.specs.declared.commands.Call.TheVariants.{Sender, Seal, Share, Take, Dispute, Look, Next, Open, Free, Floor, Advance}
@@ -40,3 +45,37 @@ abbrev pub command_line : Command → List ℕ
 command_line (Archive p) = spaced (codes "archive") (archive_words p)
 command_line (Space n) = spaced (codes "space") (decimal n)
 command_line (Call c) = call_line c
+
+-- index, target and floor
+abbrev pub IsIndex : ℕ → Type 0
+IsIndex n = n < 2 ^ 32
+
+-- places, sightings and space
+abbrev pub IsCount : ℕ → Type 0
+IsCount n = n ≤ 2 ^ 20
+
+abbrev pub AreBytes : Vec ℕ → Type 0
+AreBytes v = AllByRecursion Byte (vec_items v)
+
+abbrev pub LawfulPlan : Plan → Type 0
+LawfulPlan p = IsCount p.places × IsCount p.sightings × IsIndex p.floor
+
+-- an id is four words, whose bytes are bytes
+abbrev pub LawfulCall : AnyCall → Type 0
+LawfulCall (Sender k start) = AreBytes start
+LawfulCall (Seal text) = AreBytes text
+LawfulCall (Share n) = IsIndex n
+LawfulCall (Take copy) = AreBytes copy
+LawfulCall (Open k message) = AreBytes message
+LawfulCall (Advance copy n) = AreBytes copy × IsIndex n
+LawfulCall _ = Unit {0}
+
+-- the commands that there are: numbers are no larger than they may be, and bytes are bytes
+abbrev pub Lawful : Command → Type 0
+Lawful (Archive p) = LawfulPlan p
+Lawful (Space n) = IsCount n
+Lawful (Call c) = LawfulCall c
+
+-- what is read is lawful and written so, and a bad line is how nothing lawful is written
+abbrev pub Reads : {T : Type 0} → (T → List ℕ) → (T → Type 0) → List ℕ → Result T LineFault → Type 0
+Reads {T} words Lawful line r = MatchResult r (λ x. (line ≡ words x) × Lawful x) (λ e. e ≡ BadLine → (x : T) → Lawful x → line ≢ words x)

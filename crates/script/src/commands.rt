@@ -1,8 +1,8 @@
 // The commands of a script, read from the words of their lines.
-ghost use Rattle.std.specs.Prelude.{◌≡◌, IfOk, codes, decimal};
-ghost use Rattle.script.specs.Commands.{spaced, id_word, plan_words, archive_words, call_line, command_line};
+ghost use Rattle.std.specs.Prelude.{◌≡◌, Some, None, MatchResult, codes, decimal};
+ghost use Rattle.script.specs.Commands.{spaced, id_word, plan_words, archive_words, call_line, command_line, IsIndex, IsCount, AreBytes, LawfulPlan, LawfulCall, Lawful, Reads};
 ghost use Rattle.script.specs.Verbs.{verb_word};
-ghost use Rattle.script.specs.Words.{hex_word};
+ghost use Rattle.script.specs.Words.{upto, behind, hex_word};
 
 use crate::fault::LineFault;
 use crate::verbs::Verb;
@@ -44,14 +44,15 @@ pub enum Command {
 
 // The number that a word is, below 2^32.
 fn read_index(word: &[u8]) -> Result<u32, LineFault>
-    ensures { IfOk result (λ n. word.now ≡ decimal n) }
+    ensures { Reads decimal IsIndex word.now result }
 {
     number(word).ok_or(LineFault::BadLine)
 }
 
 // The same, for places, sightings and space.
+#[tactic(auto, using(std::proofs::lemmas::Fmt::decimal_injective))]
 fn read_count(word: &[u8]) -> Result<usize, LineFault>
-    ensures { IfOk result (λ n. word.now ≡ decimal n) }
+    ensures { Reads decimal IsCount word.now result }
 {
     match read_index(word)? {
         n @ 0..=1_048_576 => Ok(n as usize),
@@ -61,8 +62,9 @@ fn read_count(word: &[u8]) -> Result<usize, LineFault>
 
 // An id is 64 hex digits.
 // The heap goes with another word each time, so a struct of both would be made anew at each call.
+#[tactic(auto, using(copy_bytes::proofs::Ids::bytes_id))]
 fn read_name(heap: Global, word: &[u8]) -> Result<Id, LineFault>
-    ensures { IfOk result (λ k. word.now ≡ id_word k) }
+    ensures { Reads id_word (λ _. Unit {0}) word.now result }
 {
     let bytes = read_bytes(heap, word)?;
     read_id(&bytes).map_err(|_| LineFault::BadLine)
@@ -70,13 +72,14 @@ fn read_name(heap: Global, word: &[u8]) -> Result<Id, LineFault>
 
 // The two parts of what stands behind a command's word.
 fn two_words(rest: &[u8]) -> Result<(&[u8], &[u8]), LineFault>
-    ensures { IfOk result (λ both. rest.now ≡ spaced both.0.now both.1.now) }
+    ensures { MatchResult result (λ both. (rest.now ≡ spaced both.0.now both.1.now) × (both.0.now ≡ upto 32 rest.now) × (behind 32 rest.now ≡ Some both.1.now)) (λ _. behind 32 rest.now ≡ None) }
 {
     split_once(rest, b' ').ok_or(LineFault::BadLine)
 }
 
+#[tactic(auto, using(crate::proofs::Spaces::first_decimal, crate::proofs::Spaces::rest_decimal))]
 fn read_plan(rest: &[u8]) -> Result<Plan, LineFault>
-    ensures { IfOk result (λ p. rest.now ≡ plan_words p) }
+    ensures { Reads plan_words LawfulPlan rest.now result }
 {
     let (places, rest) = two_words(rest)?;
     let (sightings, floor) = two_words(rest)?;
@@ -89,29 +92,31 @@ fn read_plan(rest: &[u8]) -> Result<Plan, LineFault>
 
 // There is one suite and one kind of store so far.
 fn read_archive(rest: &[u8]) -> Result<Plan, LineFault>
-    ensures { IfOk result (λ p. rest.now ≡ archive_words p) }
+    ensures { Reads archive_words LawfulPlan rest.now result }
 {
     let plan = rest.strip_prefix(b"bench slots ");
     read_plan(plan.ok_or(LineFault::BadLine)?)
 }
 
 // An id, and bytes behind it.
+#[tactic(auto, using(crate::proofs::Spaces::first_hex, crate::proofs::Spaces::rest_hex))]
 fn read_named(heap: Global, rest: &[u8]) -> Result<(Id, Vec<u8>), LineFault>
-    ensures { IfOk result (λ both. rest.now ≡ spaced (id_word both.0) (hex_word both.1.items)) }
+    ensures { Reads (λ both. spaced (id_word both.0) (hex_word both.1.items)) (λ both. AreBytes both.1) rest.now result }
 {
     let (id, bytes) = two_words(rest)?;
     Ok((read_name(heap, id)?, read_bytes(heap, bytes)?))
 }
 
+#[tactic(auto, using(crate::proofs::Spaces::first_hex, crate::proofs::Spaces::rest_hex))]
 fn read_advance(heap: Global, rest: &[u8]) -> Result<Call, LineFault>
-    ensures { IfOk result (λ call. spaced (codes "advance") rest.now ≡ call_line call) }
+    ensures { Reads call_line LawfulCall (spaced (codes "advance") rest.now) result }
 {
     let (copy, target) = two_words(rest)?;
     Ok(Call::Advance(read_bytes(heap, copy)?, read_index(target)?))
 }
 
 fn read_next(heap: Global, word: &[u8]) -> Result<Call, LineFault>
-    ensures { IfOk result (λ call. spaced (codes "next") word.now ≡ call_line call) }
+    ensures { Reads call_line LawfulCall (spaced (codes "next") word.now) result }
 {
     match word {
         b"-" => Ok(Call::Next(None)),
@@ -121,7 +126,7 @@ fn read_next(heap: Global, word: &[u8]) -> Result<Call, LineFault>
 
 // A command that is one word.
 fn read_lone(verb: Verb) -> Result<Command, LineFault>
-    ensures { IfOk result (λ c. verb_word verb ≡ command_line c) }
+    ensures { Reads command_line Lawful (verb_word verb) result }
 {
     match verb {
         Verb::Free => Ok(Command::Call(Call::Free)),
@@ -131,7 +136,7 @@ fn read_lone(verb: Verb) -> Result<Command, LineFault>
 }
 
 fn read_call(heap: Global, verb: Verb, rest: &[u8]) -> Result<Call, LineFault>
-    ensures { IfOk result (λ call. spaced (verb_word verb) rest.now ≡ call_line call) }
+    ensures { Reads call_line LawfulCall (spaced (verb_word verb) rest.now) result }
 {
     match verb {
         Verb::Sender => {
@@ -154,7 +159,7 @@ fn read_call(heap: Global, verb: Verb, rest: &[u8]) -> Result<Call, LineFault>
 }
 
 fn read_with(heap: Global, verb: Verb, rest: &[u8]) -> Result<Command, LineFault>
-    ensures { IfOk result (λ c. spaced (verb_word verb) rest.now ≡ command_line c) }
+    ensures { Reads command_line Lawful (spaced (verb_word verb) rest.now) result }
 {
     match verb {
         Verb::Archive => Ok(Command::Archive(read_archive(rest)?)),
@@ -165,7 +170,7 @@ fn read_with(heap: Global, verb: Verb, rest: &[u8]) -> Result<Command, LineFault
 
 // The command that a line is.
 pub fn read_command(heap: Global, line: &[u8]) -> Result<Command, LineFault>
-    ensures { IfOk result (λ c. line.now ≡ command_line c) }
+    ensures { Reads command_line Lawful line.now result }
 {
     match split_once(line, b' ') {
         Some((word, rest)) => read_with(heap, Verb::try_from(word)?, rest),
