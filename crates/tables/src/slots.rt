@@ -69,6 +69,7 @@ fn take_in<K: Key, V: Value>(slots: &mut [Slot<K, V>], key: K, value: V) -> Resu
     Ok(())
 }
 
+// A function over the slots, since a part of a field behind a `&mut` is lent with no generated proof.
 pub(crate) fn take_used<K: TableKey, V: Value>(
     slots: &mut [Slot<K, V>],
     key: K,
