@@ -1,5 +1,6 @@
 // The worked figures once more, by the compiled code.
 use bench_suite::word::Word;
+use message::varint::read_varint;
 use opening::unseal::{OpenRefusal, unseal};
 use ratchet::advance::advance;
 use ratchet::copies::{Holding, SessionCopy};
@@ -8,6 +9,17 @@ use ratchet::ids::Id;
 use ratchet::suite::Suite;
 use sending::sender::Sender;
 use std::test::Fail;
+use store::meaning::Store;
+use store::sighting::Sighting;
+use store::spot::Spot;
+use tables::table::Table;
+
+const ID: Id = Id {
+    w0: 0,
+    w1: 0,
+    w2: 0,
+    w3: 1,
+};
 
 fn zeros(index: u32) -> SessionCopy<Word> {
     let zero = Word { value: 0 };
@@ -41,12 +53,6 @@ fn advances(rt: HostRuntime) {
 }
 
 #[test]
-fn first_step(rt: HostRuntime) {
-    let r3 = advance(zeros(0), 1).map(|there| there.copy.r3.value);
-    assert_eq!(rt; r3, Ok(0x9E37_79B9_7F4A_7C16));
-}
-
-#[test]
 fn step_and_tag(rt: HostRuntime) {
     let r3 = advance(zeros(0), 1).map(|there| there.copy.r3.value);
     assert_eq!(rt; r3, Ok(0x9E37_79B9_7F4A_7C16));
@@ -70,17 +76,24 @@ const LONG_INDEX: [u8; 16] = [
 
 #[test]
 fn seals(rt: HostRuntime) -> Result<(), Fail> {
-    let id = Id {
-        w0: 0,
-        w1: 0,
-        w2: 0,
-        w3: 1,
-    };
     let mut out = [0; 15];
-    let mut sender = Sender::<Word>::new(id, &[0; 32]).map_err(|_| Fail::new("refused"))?;
+    let mut sender = Sender::<Word>::new(ID, &[0; 32]).map_err(|_| Fail::new("refused"))?;
     assert_eq!(rt; sender.seal(b"up", &mut out), Ok(15));
     assert!(rt; out == UP);
+    // The last of these stands at index 300, a varint of two bytes.
+    let mut long = [0; 16];
+    for _ in 1..=300 {
+        assert!(rt; sender.seal(b"up", &mut long).is_ok());
+    }
+    assert!(rt; long.starts_with(&[0x43, 0x08, 0xAC, 0x02]));
     Ok(())
+}
+
+#[test]
+fn varints(rt: HostRuntime) {
+    for row in [([0xAC, 0x02], Some((300, 2))), ([0x80, 0x00], None)].iter() {
+        assert_eq!(rt; read_varint(&row.0), row.1);
+    }
 }
 
 // What four zero parts that are held at index 0 answer to a message: the length of its text.
@@ -98,16 +111,43 @@ fn opens(rt: HostRuntime) {
     assert_eq!(rt; answer(&LONG_INDEX).map_err(u8::from), Err(8));
 }
 
-// An agreeing copy at 0 after one at 5, and a copy that differs in R3.
+// An agreeing copy at 0 after one at 5; a copy that differs in R3, and the zeros once more.
 #[test]
 fn joins(rt: HostRuntime) -> Result<(), Fail> {
-    let low = zeros(0);
-    let mut other = low;
-    other.r3 = Word { value: 1 };
-    let there = advance(low, 5).map_err(|_| Fail::new("refused"))?;
-    let lower = join_holdings(Holding::Held(there.copy), Holding::Held(low));
-    assert!(rt; lower == Holding::Held(zeros(0)));
-    let differing = join_holdings(Holding::Held(low), Holding::Held(other));
-    assert!(rt; differing == Holding::Disputed);
+    let there = advance(zeros(0), 5).map_err(|_| Fail::new("refused"))?;
+    let mut differing = zeros(0);
+    differing.r3 = Word { value: 1 };
+    let low = Holding::Held(zeros(0));
+    let rows = [
+        (Holding::Held(there.copy), low, low),
+        (low, Holding::Held(differing), Holding::Disputed),
+        (Holding::Disputed, low, Holding::Disputed),
+    ];
+    for row in rows.iter() {
+        assert!(rt; join_holdings(row.0, row.1) == row.2);
+    }
     Ok(())
+}
+
+fn spot(index: u32) -> Spot {
+    Spot { id: ID, index }
+}
+
+// An event that is taken at an index, and what is then shown at the indices 0 and 1.
+const SIGHTINGS: [(u32, u32, Option<Sighting>, Option<Sighting>); 4] = [
+    (0, 7, Some(Sighting::Event(7)), None),
+    (0, 7, Some(Sighting::Event(7)), None),
+    (1, 7, Some(Sighting::Event(7)), Some(Sighting::Event(7))),
+    (0, 9, Some(Sighting::Repeated), Some(Sighting::Event(7))),
+];
+
+#[test]
+fn sights(rt: HostRuntime) {
+    let mut slots = [None; 2];
+    let mut book = Table::over(&mut slots);
+    for row in SIGHTINGS.iter() {
+        assert_eq!(rt; book.take(spot(row.0), Sighting::Event(row.1)), Ok(()));
+        assert_eq!(rt; book.look(spot(0)), row.2);
+        assert_eq!(rt; book.look(spot(1)), row.3);
+    }
 }

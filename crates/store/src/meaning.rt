@@ -33,7 +33,7 @@ pub trait Value: Copy {
 pub trait Store<K: Key, V: Value> {
     ghost means: { Self → Meaning K V };
 
-    // The store still lies in the memory that it was lent.
+    // The store still lies in the memory that it was lent, and left alone what it does not use.
     ghost steady: { Self → Self → Type 0 };
 
     ghost lasts: { Steady steady };

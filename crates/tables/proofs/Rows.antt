@@ -1,8 +1,7 @@
 -- What the entries in slots come to in order: what is found of them, and which is the lowest above a key.
-use Rattle.std.proofs.Common.{◌≡◌, ℕ, zero, suc, ◌-◌, min, take, replicate, is_none, count_by, ◌≤◌, ◌==◌, true, Bool, cond, eqb, nat_lt, List, [], ◌∷◌, find, filter, fold, Some, None, Option, option_map, sym, refl, ap, ◌∙◌, inl, inr, arith}
+use Rattle.std.proofs.Common.{◌≡◌, ℕ, zero, suc, min, take, replicate, is_none, count_by, ◌==◌, true, Bool, cond, eqb, nat_lt, List, [], ◌∷◌, find, filter, fold, Some, None, Option, option_map, sym, refl, ap, ◌∙◌, inl, inr, arith}
 use Rattle.std.specs.List.{reduce}
 use Rattle.std.specs.Option.{option_map_or}
-use Rattle.std.proofs.lemmas.List.{take-replicate}
 use Rattle.std.proofs.lemmas.List.Sums.{sum_by-cons}
 use Rattle.std.proofs.lemmas.Bool.Decides.{nat_tests}
 use Rattle.std.proofs.lemmas.Bool.{cases_Bool}
@@ -84,21 +83,16 @@ pub of_both : {K V : Type 0} (a b : List (K × V)) (m n : ℕ) → a ≡ b → m
 of_both a b m n p q = ap (λ x. of x m) p ∙ ap (λ x. of b x) q
 
 module _ {K V : Type 0} (rank : K → ℕ) where
-  all_free : (n : ℕ) → slots_mean {V = V} rank (replicate n None) ≡ empty n
-  all_free zero = refl
-  all_free (suc n) =
-      let ih = all_free n in
-      let c = sum_by-cons {X = Option (K × V)} (λ x. cond (is_none x) 1 0) None (replicate n None) in
-      let h : count_by is_none (replicate {A = Option (K × V)} n None) ≡ n = ap (λ m. m.places) ih in
+  fronts_free : (n limit : ℕ) → slots_mean {V = V} rank (take limit (replicate n None)) ≡ empty (min n limit)
+  fronts_free n zero = of_both _ _ _ _ refl (omega arith)
+  fronts_free zero (suc limit) = of_both _ _ _ _ refl (omega arith)
+  fronts_free (suc n) (suc limit) =
+      let ih = fronts_free n limit in
+      let front = take limit (replicate {A = Option (K × V)} n None) in
+      let c = sum_by-cons {X = Option (K × V)} (λ x. cond (is_none x) 1 0) None front in
+      let h : count_by is_none front ≡ min n limit = ap (λ m. m.places) ih in
       of_both _ _ _ _ (ap (λ m. m.entries) ih) (c ∙ omega arith)
 
-  module _ (n limit : ℕ) (s : List (Option (K × V))) (cleared : s ≡ replicate n None) where
-    -- all of some cleared slots, and as many as the limit of more
-    pub all_cleared : n ≤ limit → slots_mean rank s ≡ empty (min n limit)
-    all_cleared le = ap (slots_mean rank) cleared ∙ all_free n ∙ ap empty (omega arith)
-
-    pub front_cleared : limit ≤ n → slots_mean rank (take (limit - 0) s) ≡ empty (min n limit)
-    front_cleared le =
-        let p : limit - 0 ≡ limit = omega arith in
-        ap (λ t. slots_mean rank (take (limit - 0) t)) cleared ∙ ap (λ k. slots_mean rank (take k (replicate n None))) p
-        ∙ ap (slots_mean rank) (take-replicate limit n None le) ∙ all_free limit ∙ ap empty (omega arith)
+  -- of cleared slots as many are places as the limit allows
+  pub cleared_mean : (n limit : ℕ) (s : List (Option (K × V))) → s ≡ replicate n None → slots_mean rank (take limit s) ≡ empty (min n limit)
+  cleared_mean n limit s cleared = ap (λ t. slots_mean rank (take limit t)) cleared ∙ fronts_free n limit

@@ -1,4 +1,5 @@
 ghost use Rattle.std.specs.Prelude.{ℕ};
+ghost use Rattle.tables.specs.Limits.{most_sessions, most_sightings};
 
 use ratchet::ids::Id;
 use store::meaning::Key;
@@ -14,11 +15,11 @@ pub trait TableKey: Key {
 impl TableKey for Id {
     const MOST: usize = 4096;
 
-    ghost MOST = { 4096 };
+    ghost MOST = { most_sessions };
 }
 
 impl TableKey for Spot {
     const MOST: usize = 65_536;
 
-    ghost MOST = { 65536 };
+    ghost MOST = { most_sightings };
 }

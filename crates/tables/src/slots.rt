@@ -1,4 +1,4 @@
-ghost use Rattle.std.specs.Prelude.{◌≡◌, length, replicate, cond, true, false, None, Err, position, is_none, count_by, find, filter, flat_map, option_to_list};
+ghost use Rattle.std.specs.Prelude.{◌≡◌, take, drop, cond, true, false, None, Err, position, is_none, count_by, find, filter, flat_map, option_to_list};
 ghost use Rattle.std.specs.List.{reduce};
 ghost use Rattle.std.specs.Option.{option_map_or};
 ghost use Rattle.std.specs.Ordering.{partial_lt};
@@ -6,11 +6,19 @@ ghost use Rattle.store.specs.declared.refusal.StoreRefusal.TheVariants.{NoPlace}
 ghost use Rattle.store.specs.Meaning.{room, answer, taken};
 ghost use Rattle.tables.specs.Slots.{slots_mean};
 
+use crate::keys::TableKey;
 use store::meaning::{Key, Value};
 use store::refusal::StoreRefusal;
 
 // One place of a keyed table: free, or an entry.
 pub type Slot<K, V> = Option<(K, V)>;
+
+// The slots that a table uses: those up to the limit.
+pub(crate) fn used<K: TableKey, V: Copy>(slots: &[Slot<K, V>]) -> &[Slot<K, V>]
+    ensures { result.now ≡ take K.MOST slots.now }
+{
+    &slots[..slots.len().min(K::MOST)]
+}
 
 // A chain's law is found only at a function of its own, so this one, `entry_of` and `lowest_above`
 // retrace their chains, and the callers' proofs say what that means for keys in order.
@@ -49,11 +57,7 @@ pub(crate) fn lowest_above<K: Key, V: Copy>(slots: &[Slot<K, V>], last: Option<K
         .reduce(|a, b| if b.0 < a.0 { b } else { a })
 }
 
-pub(crate) fn take_in<K: Key, V: Value>(
-    slots: &mut [Slot<K, V>],
-    key: K,
-    value: V,
-) -> Result<(), StoreRefusal>
+fn take_in<K: Key, V: Value>(slots: &mut [Slot<K, V>], key: K, value: V) -> Result<(), StoreRefusal>
     ensures answer { result ≡ answer (room K.rank (slots_mean K.rank slots.old) key) }
     ensures after { slots_mean K.rank slots.new ≡ taken K.rank V.join V.raise (slots_mean K.rank slots.old) key value }
     ensures refused { result ≡ Err NoPlace → slots.new ≡ slots.old }
@@ -63,4 +67,19 @@ pub(crate) fn take_in<K: Key, V: Value>(
         .ok_or(StoreRefusal::NoPlace)?;
     slots[i] = Some((key, slots[i].map_or(value, |e| e.1.joined(value))));
     Ok(())
+}
+
+// A function over the slots, since a part of a field behind a `&mut` is lent with no generated proof.
+pub(crate) fn take_used<K: TableKey, V: Value>(
+    slots: &mut [Slot<K, V>],
+    key: K,
+    value: V,
+) -> Result<(), StoreRefusal>
+    ensures answer { result ≡ answer (room K.rank (slots_mean K.rank (take K.MOST slots.old)) key) }
+    ensures after { slots_mean K.rank (take K.MOST slots.new) ≡ taken K.rank V.join V.raise (slots_mean K.rank (take K.MOST slots.old)) key value }
+    ensures beyond { drop K.MOST slots.new ≡ drop K.MOST slots.old }
+    ensures refused { result ≡ Err NoPlace → slots.new ≡ slots.old }
+{
+    let n = slots.len().min(K::MOST);
+    take_in(&mut slots[..n], key, value)
 }

@@ -6,4 +6,4 @@ use Rattle.tables.proofs.table.TableStore.look.Goals as goal
 pub returns : goal.returns
 returns g c =
     let same = eq_ranks g.K.Key.rank g.met.K.Key.ordered g.met.K.Ord.matches_eq in
-    found_by g.K.Key.rank same (flat_map option_to_list c.args.self.now.slots.now) c.args.key c.map.result (search rules)
+    rw (← c.used.ensures) (found_by g.K.Key.rank same (flat_map option_to_list c.used.result.now) c.args.key c.map.result (search rules))

@@ -6,4 +6,5 @@ use Rattle.tables.proofs.table.TableStore.next.Goals as goal
 pub returns : goal.returns
 returns g c =
     let below = lt_ranks g.K.Key.rank g.met.K.Key.ordered g.met.K.Ord.matches_partial_cmp in
-    lowest_by g.K.Key.rank below c.args.last.now (flat_map option_to_list c.args.self.now.slots.now) c.lowest_above.result c.lowest_above.ensures
+    rw (← c.used.ensures)
+    (lowest_by g.K.Key.rank below c.args.last.now (flat_map option_to_list c.used.result.now) c.lowest_above.result c.lowest_above.ensures)
