@@ -11,7 +11,7 @@ use Rattle.opening.specs.Numbers.{open_number}
 use Rattle.opening.specs.Open.{Unsealed, told, opened, open_output}
 use Rattle.script.specs.Words.{hex_word}
 use Rattle.console.specs.Fronts.{opened_front}
-use Rattle.console.specs.Lines.{refused, open_line}
+use Rattle.console.specs.Lines.{refused, open_words}
 
 fitting : (u : Unsealed) (out : List ℕ) (b : Bool)
     → cond b ((32 ∷ decimal u.index) ++ ((32 ∷ decimal u.hashes) ++ (32 ∷ hex_word u.text))) (refused (open_number TooSmall))
@@ -22,13 +22,13 @@ fitting u out true =
     (sym (take_at u.text (drop (length u.text) out) (length u.text) refl))
 fitting u out false = refl
 
-whole : (u : Result Unsealed OpenRefusal) (out : List ℕ) → open_line u out ≡ opened_front (opened u out) (open_output u out)
-unfolding open_line opened_front
+whole : (u : Result Unsealed OpenRefusal) (out : List ℕ) → open_words u out ≡ opened_front (opened u out) (open_output u out)
+unfolding open_words opened_front
 whole (Err e) out = refl
 whole (Ok u) out = fitting u out (fits u.text out)
 
 pub opened_line : {E : Type 0} (r : Result (Unit {0}) E) (u : Result Unsealed OpenRefusal) (ans : Result Opened OpenRefusal) (out new a b : List ℕ)
     → ans ≡ opened u out → new ≡ open_output u out → OnOk r (a ≡ b ++ (codes "open" ++ opened_front ans new))
-    → OnOk r (a ≡ b ++ (codes "open" ++ open_line u out))
+    → OnOk r (a ≡ b ++ (codes "open" ++ open_words u out))
 opened_line r u ans out new a b value after h =
     on_ok_weaker r (λ e. e ∙ ap (λ line. b ++ (codes "open" ++ line)) (rw (value, after) (sym (whole u out)))) h

@@ -1,4 +1,4 @@
--- For private contracts: what is printed, by what a call answered and the output that it left.
+-- For private contracts: what stands behind the word of a call, by what a call answered and the output that it left.
 use Rattle.std.specs.Prelude.{ℕ, List, ◌∷◌, ◌++◌, Ok, Err, Result, decimal, take}
 use Rattle.ratchet.specs.Suite.{Meaning}
 use Rattle.copy_bytes.specs.declared.named.NamedCopy.{NamedCopy}
@@ -21,6 +21,6 @@ opened_front (Ok o) out = (32 ∷ decimal o.index) ++ ((32 ∷ decimal o.hashes)
 opened_front (Err e) out = refused (open_number e)
 
 -- the hashes of an advance, and the copy that it reaches
-abbrev pub moved_line : {P : Type 0} → Meaning P → Result (ℕ × NamedCopy P) Refusal → List ℕ
-moved_line m (Ok there) = (32 ∷ decimal there.0) ++ (32 ∷ hex_word (copy_bytes m Export there.1))
-moved_line m (Err refusal) = refused refusal.0
+abbrev pub moved_words : {P : Type 0} → Meaning P → Result (ℕ × NamedCopy P) Refusal → List ℕ
+moved_words m (Ok there) = (32 ∷ decimal there.0) ++ (32 ∷ hex_word (copy_bytes m Export there.1))
+moved_words m (Err refusal) = refused refusal.0

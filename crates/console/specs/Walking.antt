@@ -1,5 +1,5 @@
 -- What a line of a script does, by what the calls of a server say and leave.
-use Rattle.std.specs.Prelude.{◌≡◌, ◌≢◌, ℕ, Bool, true, List, [], ◌∷◌, ◌++◌, Some, None, Option, IsSomeAnd, codes, decimal, ◌==◌, vec_len, ◌⊎◌}
+use Rattle.std.specs.Prelude.{◌≡◌, ◌^◌, ◌≢◌, ℕ, Bool, true, List, [], ◌∷◌, ◌++◌, Some, None, Option, IsSomeAnd, codes, decimal, ◌==◌, vec_len, ◌⊎◌}
 use Rattle.store.specs.Meaning.{Meaning}
 use Rattle.script.specs.declared.commands.Call.{Call as AnyCall}
 use Rattle.script.specs.declared.commands.Command.{Command}
@@ -20,6 +20,10 @@ ended line = line ++ (10 ∷ [])
 -- the free places and the floor of a new archive
 abbrev pub archive_line : {K V : Type 0} → Meaning K V → List ℕ
 archive_line m = codes "archive " ++ (decimal m.places ++ (32 ∷ decimal m.floor))
+
+-- what calls are offered at most, and at first
+abbrev pub most_space : ℕ
+most_space = 2 ^ 20
 
 abbrev pub space_line : ℕ → List ℕ
 space_line n = codes "space " ++ decimal n

@@ -1,19 +1,17 @@
 // An archive and its sender, and what they answer to the calls of a script.
-ghost use Rattle.std.specs.Prelude.{◌≡◌, ◌++◌, codes, decimal, string_bytes, OnOk};
+ghost use Rattle.std.specs.Prelude.{◌≡◌, ◌++◌, codes, string_bytes, OnOk};
 ghost use Rattle.copy_bytes.specs.declared.named.Accepted.TheVariants.{ShareOrExport};
 ghost use Rattle.copy_bytes.specs.CopyBytes.{read_copy};
 ghost use Rattle.opening.specs.Open.{unsealed, open_output};
 ghost use Rattle.ratchet.specs.declared.copies.Holding.TheVariants.{Disputed};
 ghost use Rattle.ratchet.specs.Ids.{id_number};
 ghost use Rattle.ratchet.specs.Join.{join, raised};
-ghost use Rattle.store.specs.Meaning.{looked, nexted, room, answer, taken};
-ghost use Rattle.store.specs.Numbers.{store_number};
-ghost use Rattle.intake.specs.Numbers.{take_number};
-ghost use Rattle.intake.specs.Taking.{bytes_answer, bytes_taken};
-ghost use Rattle.sending.specs.Numbers.{seal_number, share_number};
-ghost use Rattle.sending.specs.Sender.{new_sender, message, seal_answer, seal_output, after_seal, shared, share_answer, share_output};
-ghost use Rattle.console.specs.Fronts.{written_front, opened_front, moved_line};
-ghost use Rattle.console.specs.Lines.{Adds, Says, accepted, written, look_line, next_line, open_line, sender_line, sender_now, advance_line};
+ghost use Rattle.store.specs.Meaning.{looked, nexted, taken};
+ghost use Rattle.intake.specs.Taking.{bytes_taken};
+ghost use Rattle.sending.specs.Sender.{new_sender, seal_output, after_seal, share_output};
+ghost use Rattle.console.specs.Fronts.{written_front, opened_front, moved_words};
+ghost use Rattle.console.specs.Lines.{Adds, Says, accepted, sender_line, seal_line, share_line, take_line, dispute_line, look_line, next_line, open_line, free_line, floor_line, advance_words, advance_line};
+ghost use Rattle.console.specs.Serving.{sender_now};
 
 use crate::answers::{Hex, Refusal};
 use crate::desk::{Desk, front};
@@ -88,7 +86,7 @@ fn add_opened(desk: &mut Desk, opened: Result<Opened, OpenRefusal>) -> Result<()
 
 // The hashes to a target, and the copy there.
 fn moved<P: Suite>(bytes: &[u8], target: u32) -> Result<(u32, NamedCopy<P>), Refusal>
-    ensures { advance_line P.suite (read_copy P.suite ShareOrExport bytes.now) target ≡ moved_line P.suite result }
+    ensures { advance_words P.suite (read_copy P.suite ShareOrExport bytes.now) target ≡ moved_words P.suite result }
 {
     let named = read_copy(bytes, Accepted::ShareOrExport).map_err(Refusal::of)?;
     let there = advance(named.copy, target).map_err(Refusal::of)?;
@@ -103,7 +101,7 @@ fn moved<P: Suite>(bytes: &[u8], target: u32) -> Result<(u32, NamedCopy<P>), Ref
 
 impl<P: Suite, S: Store<Id, Holding<P>>> Archive<S, P> {
     fn take(&mut self, copy: &[u8], desk: &mut Desk) -> Result<(), AllocError>
-        ensures says { OnOk result (Says desk.old (codes "take" ++ accepted take_number (bytes_answer P.suite (S.means self.old.store) copy.now)) desk.new) }
+        ensures says { OnOk result (Says desk.old (take_line P.suite (S.means self.old.store) copy.now) desk.new) }
         ensures store { S.means self.new.store ≡ bytes_taken P.suite (S.means self.old.store) copy.now }
         ensures sender { self.new.sender ≡ self.old.sender }
     {
@@ -112,7 +110,7 @@ impl<P: Suite, S: Store<Id, Holding<P>>> Archive<S, P> {
     }
 
     fn dispute(&mut self, id: Id, desk: &mut Desk) -> Result<(), AllocError>
-        ensures says { OnOk result (Says desk.old (codes "dispute" ++ accepted store_number (answer (room id_number (S.means self.old.store) id))) desk.new) }
+        ensures says { OnOk result (Says desk.old (dispute_line P.suite (S.means self.old.store) id) desk.new) }
         ensures store { S.means self.new.store ≡ taken id_number (join P.suite) (raised P.suite) (S.means self.old.store) id Disputed }
         ensures sender { self.new.sender ≡ self.old.sender }
     {
@@ -139,7 +137,7 @@ impl<P: Suite, S: Store<Id, Holding<P>>> Archive<S, P> {
     }
 
     fn open(&self, id: Id, message: &[u8], desk: &mut Desk) -> Result<(), AllocError>
-        ensures line { OnOk result (Adds desk.old (codes "open" ++ open_line (unsealed P.suite (looked id_number (S.means self.now.store) id) message.now) desk.old.output.items) desk.new) }
+        ensures line { OnOk result (Adds desk.old (open_line P.suite (S.means self.now.store) id message.now desk.old.output.items) desk.new) }
         ensures output { OnOk result (desk.new.output.items ≡ open_output (unsealed P.suite (looked id_number (S.means self.now.store) id) message.now) desk.old.output.items) }
     {
         let opened = open(&self.store, id, message, &mut desk.output);
@@ -147,20 +145,20 @@ impl<P: Suite, S: Store<Id, Holding<P>>> Archive<S, P> {
     }
 
     fn free(&self, desk: &mut Desk) -> Result<(), AllocError>
-        ensures { OnOk result (Says desk.old (codes "free " ++ decimal (S.means self.now.store).places) desk.new) }
+        ensures { OnOk result (Says desk.old (free_line (S.means self.now.store)) desk.new) }
     {
         write!(desk.answers, "free {}", self.store.free())
     }
 
     fn floor(&self, desk: &mut Desk) -> Result<(), AllocError>
-        ensures { OnOk result (Says desk.old (codes "floor " ++ decimal (S.means self.now.store).floor) desk.new) }
+        ensures { OnOk result (Says desk.old (floor_line (S.means self.now.store)) desk.new) }
     {
         write!(desk.answers, "floor {}", self.store.floor())
     }
 
     // The space limits no advance, which writes no output.
     fn advance(&self, bytes: &[u8], target: u32, desk: &mut Desk) -> Result<(), AllocError>
-        ensures { OnOk result (Says desk.old (codes "advance" ++ advance_line P.suite (read_copy P.suite ShareOrExport bytes.now) target) desk.new) }
+        ensures { OnOk result (Says desk.old (advance_line P.suite bytes.now target) desk.new) }
     {
         desk.answers.push_str("advance")?;
         match moved::<P>(bytes, target) {
@@ -170,7 +168,7 @@ impl<P: Suite, S: Store<Id, Holding<P>>> Archive<S, P> {
     }
 
     fn start(&mut self, id: Id, start: &[u8], desk: &mut Desk) -> Result<(), AllocError>
-        ensures says { OnOk result (Says desk.old (codes "sender" ++ sender_line (new_sender P.suite id start.now)) desk.new) }
+        ensures says { OnOk result (Says desk.old (sender_line P.suite id start.now) desk.new) }
         ensures sender { OnOk result (self.new.sender ≡ sender_now self.old.sender (new_sender P.suite id start.now)) }
         ensures store { self.new.store ≡ self.old.store }
     {
@@ -188,7 +186,7 @@ impl<P: Suite, S: Store<Id, Holding<P>>> Archive<S, P> {
 
 // What a sender answers.
 fn seal<P: Suite>(sender: &mut Sender<P>, text: &[u8], desk: &mut Desk) -> Result<(), AllocError>
-    ensures line { OnOk result (Adds desk.old (codes "seal" ++ written seal_number (seal_answer P.suite sender.old text.now desk.old.output.items) (message P.suite sender.old text.now)) desk.new) }
+    ensures line { OnOk result (Adds desk.old (seal_line P.suite sender.old text.now desk.old.output.items) desk.new) }
     ensures output { desk.new.output.items ≡ seal_output P.suite sender.old text.now desk.old.output.items }
     ensures sender { sender.new ≡ after_seal P.suite sender.old text.now desk.old.output.items }
 {
@@ -197,7 +195,7 @@ fn seal<P: Suite>(sender: &mut Sender<P>, text: &[u8], desk: &mut Desk) -> Resul
 }
 
 fn share<P: Suite>(sender: &Sender<P>, index: u32, desk: &mut Desk) -> Result<(), AllocError>
-    ensures line { OnOk result (Adds desk.old (codes "share" ++ written share_number (share_answer P.suite sender.now index desk.old.output.items) (shared P.suite sender.now index)) desk.new) }
+    ensures line { OnOk result (Adds desk.old (share_line P.suite sender.now index desk.old.output.items) desk.new) }
     ensures output { desk.new.output.items ≡ share_output P.suite sender.now index desk.old.output.items }
 {
     let written = sender.share(index, &mut desk.output);

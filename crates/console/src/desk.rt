@@ -1,6 +1,7 @@
 // Answers that are not written out yet, and the memory that calls are offered for their output.
 ghost use Rattle.std.specs.Prelude.{◌≡◌, ℕ, ◌<◌, List, [], ◌++◌, take, IfOk, vec_len, string_bytes, string_len, OnOk};
 ghost use Rattle.std.specs.Io.KnownBytes.{Appends};
+ghost use Rattle.console.specs.Walking.{most_space};
 
 use std::alloc::{AllocError, Global};
 use std::io;
@@ -21,7 +22,7 @@ pub(crate) struct Desk {
 
 impl Desk {
     pub(crate) fn new(heap: Global) -> Result<Desk, AllocError>
-        ensures { IfOk result (λ d. (string_bytes d.answers ≡ []) × (vec_len d.output ≡ 1048576)) }
+        ensures { IfOk result (λ d. (string_bytes d.answers ≡ []) × (vec_len d.output ≡ most_space)) }
     {
         Ok(Desk {
             heap,

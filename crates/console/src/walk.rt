@@ -24,7 +24,7 @@ pub(crate) trait Serves {
     // What a call leaves: the server, and the output.
     ghost leaves: { Self → List ℕ → Call → Self → List ℕ → Type 0 };
 
-    // A bad line alters nothing.
+    // Does a call, or says that it is a bad line and alters nothing.
     fn serve(&mut self, call: Call, desk: &mut Desk) -> Result<(), LineFault>
         ensures bad { result ≡ Err BadLine → says self.old desk.old.output.items call ≡ None }
         ensures server { result ≡ Err BadLine → self.new ≡ self.old }

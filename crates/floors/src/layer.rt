@@ -1,6 +1,6 @@
 ghost use Rattle.std.specs.Prelude.{◌≡◌, Err};
 ghost use Rattle.store.specs.declared.refusal.StoreRefusal.TheVariants.{NoPlace};
-ghost use Rattle.store.specs.Lasting.{by_name, by_part, by_both};
+ghost use Rattle.store.specs.Lasting.{by_same, by_part, by_both};
 ghost use Rattle.store.specs.Meaning.{room, answer, taken};
 ghost use Rattle.floors.specs.Floors.{floored};
 ghost use Rattle.store.proofs.Lookups.{each_rising};
@@ -20,7 +20,7 @@ impl<K: Key, V: Value, T: Store<K, V>> Store<K, V> for FloorLayer<T> {
 
     ghost steady = { λ s t. (t.floor ≡ s.floor) × T.Store.steady s.below t.below };
 
-    ghost lasts = { by_both (by_name (λ s. s.floor)) (by_part (λ s. s.below) T.Store.lasts) };
+    ghost lasts = { by_both (by_same (λ s. s.floor)) (by_part (λ s. s.below) T.Store.lasts) };
 
     ghost unaltered = { λ s t. T.Store.unaltered s.below t.below };
 

@@ -60,7 +60,7 @@ AreBytes v = AllByRecursion Byte (vec_items v)
 abbrev pub LawfulPlan : Plan → Type 0
 LawfulPlan p = IsCount p.places × IsCount p.sightings × IsIndex p.floor
 
--- an id is four words, whose bytes are bytes
+-- bytes are bytes, and an index is one; every id is lawful
 abbrev pub LawfulCall : AnyCall → Type 0
 LawfulCall (Sender k start) = AreBytes start
 LawfulCall (Seal text) = AreBytes text

@@ -6,9 +6,9 @@ pub record Steady {S : Type 0} (kept : S → S → Type 0) : Type 0 where
   pub start : (x : S) → kept x x
   pub on : (x y z : S) → kept x y → kept y z → kept x z
 
--- what stays equal, as a name, lasts
-pub by_name : {S N : Type 0} (f : S → N) → Steady (λ x y. f y ≡ f x)
-by_name f = record { start = λ x. refl; on = λ x y z p q. q ∙ p }
+-- what stays equal lasts
+pub by_same : {S N : Type 0} (f : S → N) → Steady (λ x y. f y ≡ f x)
+by_same f = record { start = λ x. refl; on = λ x y z p q. q ∙ p }
 
 -- what lasts below lasts above
 pub by_part : {S B : Type 0} (b : S → B) {kept : B → B → Type 0} → Steady kept → Steady (λ x y. kept (b x) (b y))

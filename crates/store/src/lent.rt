@@ -1,5 +1,5 @@
 ghost use Rattle.std.specs.Prelude.{◌≡◌};
-ghost use Rattle.store.specs.Lasting.{by_name, by_part, by_both};
+ghost use Rattle.store.specs.Lasting.{by_same, by_part, by_both};
 
 use crate::meaning::{Key, Store, Value};
 use crate::refusal::StoreRefusal;
@@ -10,7 +10,7 @@ impl<K: Key, V: Value, T: Store<K, V>> Store<K, V> for &mut T {
 
     ghost steady = { λ s t. (t.ghost_name ≡ s.ghost_name) × T.Store.steady s.now t.now };
 
-    ghost lasts = { by_both (by_name (λ s. s.ghost_name)) (by_part (λ s. s.now) T.Store.lasts) };
+    ghost lasts = { by_both (by_same (λ s. s.ghost_name)) (by_part (λ s. s.now) T.Store.lasts) };
 
     ghost unaltered = { λ s t. T.Store.unaltered s.now t.now };
 

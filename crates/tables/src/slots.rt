@@ -4,7 +4,7 @@ ghost use Rattle.std.specs.Option.{option_map_or};
 ghost use Rattle.std.specs.Ordering.{partial_lt};
 ghost use Rattle.store.specs.declared.refusal.StoreRefusal.TheVariants.{NoPlace};
 ghost use Rattle.store.specs.Meaning.{room, answer, taken};
-ghost use Rattle.tables.specs.Slots.{slots_mean};
+ghost use Rattle.tables.specs.Slots.{slots_mean, table_means};
 
 use crate::keys::TableKey;
 use store::meaning::{Key, Value};
@@ -75,8 +75,8 @@ pub(crate) fn take_used<K: TableKey, V: Value>(
     key: K,
     value: V,
 ) -> Result<(), StoreRefusal>
-    ensures answer { result ≡ answer (room K.rank (slots_mean K.rank (take K.MOST slots.old)) key) }
-    ensures after { slots_mean K.rank (take K.MOST slots.new) ≡ taken K.rank V.join V.raise (slots_mean K.rank (take K.MOST slots.old)) key value }
+    ensures answer { result ≡ answer (room K.rank (table_means K.rank K.MOST slots.old) key) }
+    ensures after { table_means K.rank K.MOST slots.new ≡ taken K.rank V.join V.raise (table_means K.rank K.MOST slots.old) key value }
     ensures beyond { drop K.MOST slots.new ≡ drop K.MOST slots.old }
     ensures refused { result ≡ Err NoPlace → slots.new ≡ slots.old }
 {

@@ -1,7 +1,7 @@
 ghost use Rattle.std.specs.Prelude.{◌≡◌, min, length, take, drop, replicate, flat_map, option_to_list};
-ghost use Rattle.store.specs.Lasting.{by_name, by_both};
+ghost use Rattle.store.specs.Lasting.{by_same, by_both};
 ghost use Rattle.store.specs.Meaning.{empty};
-ghost use Rattle.tables.specs.Slots.{slots_mean};
+ghost use Rattle.tables.specs.Slots.{table_means};
 ghost use Rattle.store.proofs.Lookups.{in_order_rising};
 
 use crate::keys::TableKey;
@@ -16,12 +16,12 @@ pub struct Table<'a, K, V> {
 }
 
 impl<K: TableKey, V: Value> Store<K, V> for Table<'_, K, V> {
-    ghost means = { λ s. slots_mean K.Key.rank (take K.TableKey.MOST s.slots.now) };
+    ghost means = { λ s. table_means K.Key.rank K.TableKey.MOST s.slots.now };
 
     // The slots beyond the limit stay, so a caller knows them too once the table is gone.
     ghost steady = { λ s t. (t.slots.ghost_name ≡ s.slots.ghost_name) × (drop K.TableKey.MOST t.slots.now ≡ drop K.TableKey.MOST s.slots.now) };
 
-    ghost lasts = { by_both (by_name (λ s. s.slots.ghost_name)) (by_name (λ s. drop K.TableKey.MOST s.slots.now)) };
+    ghost lasts = { by_both (by_same (λ s. s.slots.ghost_name)) (by_same (λ s. drop K.TableKey.MOST s.slots.now)) };
 
     ghost unaltered = { λ s t. t.slots.now ≡ s.slots.now };
 
@@ -51,7 +51,7 @@ impl<K: TableKey, V: Value> Store<K, V> for Table<'_, K, V> {
 impl<'a, K: TableKey, V: Value> Table<'a, K, V> {
     // An empty table, over all the memory lent: what lies beyond the limit is cleared and never used.
     pub fn over(slots: &'a mut [Slot<K, V>]) -> Table<'a, K, V>
-        ensures means { slots_mean K.rank (take K.MOST result.slots.now) ≡ empty (min (length slots.old) K.MOST) }
+        ensures means { table_means K.rank K.MOST result.slots.now ≡ empty (min (length slots.old) K.MOST) }
         ensures lent { result.slots.ghost_name ≡ slots.entry.ghost_name }
         ensures cleared { result.slots.now ≡ replicate (length slots.old) None }
     {
