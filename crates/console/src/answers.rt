@@ -4,8 +4,7 @@ ghost use Rattle.std.specs.Fmt.{WritesOnOk};
 ghost use Rattle.script.specs.Words.{hex, hex_word};
 
 use hex::encode_to_slice;
-use std::fmt;
-use std::str;
+use std::{fmt, str};
 
 // So many bytes are written at once: a write for each byte takes several times as long.
 const FEW: usize = 64;
