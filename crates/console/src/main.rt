@@ -2,7 +2,7 @@
 #![tactic(auto)]
 
 ghost use Rattle.std.specs.Prelude.{◌≡◌, IfOk, OnOk, OnSome, length};
-ghost use Rattle.script.specs.Script.{IsShorter};
+ghost use Rattle.script.specs.Script.{unread, IsShorter};
 ghost use Rattle.console.specs.Lines.{Adds, offered};
 ghost use Rattle.console.specs.Walking.{ended, archive_line, most_space};
 
@@ -43,7 +43,7 @@ fn serve_over<P: Suite, S: Store<Id, Holding<P>> + Drop, W: Write>(
     store: S,
     session: &mut Session<'_, W>,
 ) -> io::Result<Option<Plan>>
-    ensures { IfOk result (λ o. OnSome o (IsShorter session.new.script session.old.script)) }
+    ensures { IfOk result (λ o. OnSome o (IsShorter (unread session.new.script) (unread session.old.script))) }
 {
     greet(&store, &mut session.desk)?;
     let mut archive = Archive {
@@ -55,7 +55,7 @@ fn serve_over<P: Suite, S: Store<Id, Holding<P>> + Drop, W: Write>(
 
 // Makes an archive, and answers up to the next one or the end.
 fn serve<P: Suite, W: Write>(plan: Plan, session: &mut Session<'_, W>) -> io::Result<Option<Plan>>
-    ensures { IfOk result (λ o. OnSome o (IsShorter session.new.script session.old.script)) }
+    ensures { IfOk result (λ o. OnSome o (IsShorter (unread session.new.script) (unread session.old.script))) }
 {
     let mut slots = vec![in session.desk.heap; None::<(Id, Holding<P>)>; plan.places]?;
     let store = FloorLayer {

@@ -4,7 +4,7 @@ ghost use Rattle.script.specs.declared.commands.Call.{Call};
 ghost use Rattle.script.specs.declared.fault.LineFault.TheVariants.{BadLine};
 ghost use Rattle.script.specs.declared.commands.Command.{Command};
 ghost use Rattle.script.specs.Commands.{command_line, Lawful};
-ghost use Rattle.script.specs.Script.{IsShorter};
+ghost use Rattle.script.specs.Script.{unread, IsShorter};
 ghost use Rattle.console.specs.Lines.{Adds, offered};
 ghost use Rattle.console.specs.Walking.{silent, ended, space_line, Bad, Done, Answered};
 
@@ -90,7 +90,7 @@ pub(crate) struct Session<'a, W> {
 impl<'a, W: Write> Session<'a, W> {
     // Answers line by line, up to the next archive that is asked for, or to the end.
     pub(crate) fn walk<S: Serves>(&mut self, server: &mut S) -> io::Result<Option<Plan>>
-        ensures { IfOk result (λ o. OnSome o (IsShorter self.new.script self.old.script)) }
+        ensures { IfOk result (λ o. OnSome o (IsShorter (unread self.new.script) (unread self.old.script))) }
     {
         while let Some(line) = self.script.next() {
             let plan = answer(line, self.script.lines(), server, &mut self.desk)?;
