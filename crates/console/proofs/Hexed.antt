@@ -1,30 +1,22 @@
--- What `{:02x}` writes of each byte is the bytes in hex.
-use Rattle.std.proofs.Common.{Fits, w8, ◌≡◌, ℕ, ◌+◌, ◌-◌, ◌/◌, ◌%◌, ◌^◌, ◌<◌, false, List, [], ◌∷◌, ◌++◌, append-nil, length, get_or, take, sym, ap, ◌∙◌, arith}
-use Rattle.std.proofs.lemmas.Bool.Decides.{nat_tests}
-use Rattle.std.proofs.lemmas.Fmt.{hex_byte}
+-- What the library writes of bytes in hex.
+use Rattle.std.proofs.Common.{Fits, w8, ◌≡◌, ℕ, suc, ◌/◌, ◌%◌, ◌<◌, List, [], ◌∷◌, ◌++◌, append-nil, length, get_or, refl, ap, ◌∙◌, arith}
 use Rattle.std.proofs.lemmas.Bool.{cond-true, le-leb}
-use Rattle.std.proofs.lemmas.List.{take_more, drop_all}
-use Rattle.std.specs.Fmt.{digit_glyph, digits, padded_integral, format_spec}
-use Rattle.script.proofs.Hex.{hex-append}
+use Rattle.std.proofs.lemmas.List.{drop_all}
+use Rattle.std.proofs.lemmas.List.FromFn.{get_or-map-range_with_len}
+use Rattle.hex.specs.Hex.{encode_lower, encode_with, lower_digits}
 use Rattle.script.specs.Words.{hex, hex_digit}
 use Rattle.copy_bytes.specs.Output.{filled}
 
-glyph : (n : ℕ) → digit_glyph false n ≡ hex_digit n
-glyph n = grind (arith, nat_tests)
+-- the library's sixteen digits are those of a script
+digit : (n : ℕ) → n < 16 → get_or lower_digits n 0 ≡ hex_digit n
+digit n lt = get_or-map-range_with_len hex_digit 0 16 n n 0 lt (omega arith)
 
-abbrev pub padded : ℕ → List ℕ
-padded b = padded_integral (format_spec 32 0 4 2 (2 ^ 64 - 1)) false [] (digits 16 false b)
-
-padded_is : (b : ℕ) → b < 256 → padded b ≡ hex (b ∷ [])
-padded_is b lt = hex_byte false b lt ∙ (λ i. glyph (b / 16) i ∷ (glyph (b % 16) i ∷ []))
-
--- one byte more
-pub hex_more : (bs : List ℕ) (i : ℕ) → i < length bs → Fits w8 (get_or bs i 0) → hex (take i bs) ++ padded (get_or bs i 0) ≡ hex (take (i + 1) bs)
-hex_more bs i lt fits =
-    let byte : get_or bs i 0 < 256 = omega (arith, fits) in
-    ap (λ ds. hex (take i bs) ++ ds) (padded_is (get_or bs i 0) byte)
-    ∙ sym (hex-append (take i bs) (get_or bs i 0 ∷ []))
-    ∙ ap hex (sym (take_more bs i 0 lt))
+pub encoded : (bs : List ℕ) → ((i : ℕ) → Fits w8 (get_or bs i 0)) → encode_lower bs ≡ hex bs
+unfolding encode_with
+encoded [] fits = refl
+encoded (b ∷ bs) fits =
+    let byte : b < 256 = omega (arith, fits 0) in
+    rw (digit (b / 16) (omega (arith, byte)), digit (b % 16) (omega arith)) (ap (λ ds. hex_digit (b / 16) ∷ (hex_digit (b % 16) ∷ ds)) (encoded bs (λ i. fits (suc i))))
 
 -- what is as long as the output is the output
 pub filled_whole : (xs old new : List ℕ) → length xs ≡ length old → new ≡ filled xs old → new ≡ xs

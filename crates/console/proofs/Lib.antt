@@ -1,3 +1,4 @@
 pub mod Hexed
+pub mod Offered
 pub mod Opened
 pub mod ToGo

@@ -1,5 +1,5 @@
 -- What each call prints, without the newline; what is called words stands behind the word of a call.
-use Rattle.std.specs.Prelude.{◌≡◌, ℕ, List, [], ◌∷◌, ◌++◌, Some, None, Ok, Err, cond, codes, decimal, Option, Result, string_bytes}
+use Rattle.std.specs.Prelude.{◌≡◌, ℕ, List, [], ◌∷◌, ◌++◌, take, Some, None, Ok, Err, cond, codes, decimal, Option, Result, string_bytes}
 use Rattle.ratchet.specs.declared.copies.Holding.{Holding}
 use Rattle.ratchet.specs.declared.ids.Id.{Id}
 use Rattle.ratchet.specs.Suite.{Meaning}
@@ -30,13 +30,17 @@ use Rattle.console.specs.Shown.{shown_holding}
 use Rattle.script.specs.Commands.{id_word}
 use Rattle.script.specs.Words.{hex_word}
 
+-- what calls are offered for their output
+abbrev pub offered : Desk → List ℕ
+offered d = take d.space d.output.items
+
 -- the line is put behind the answers on the desk
 abbrev pub Adds : Desk → List ℕ → Desk → Type 0
 Adds old line new = string_bytes new.answers ≡ string_bytes old.answers ++ line
 
 -- the same by a call that leaves what it was offered for its output
 abbrev pub Says : Desk → List ℕ → Desk → Type 0
-Says old line new = Adds old line new × (new.output ≡ old.output)
+Says old line new = Adds old line new × (offered new ≡ offered old)
 
 -- what a store means here
 abbrev pub Contents : Type 0 → Type 0

@@ -1,5 +1,5 @@
 -- What a line of a script does, by what the calls of a server say and leave.
-use Rattle.std.specs.Prelude.{◌≡◌, ◌^◌, ◌≢◌, ℕ, Bool, true, List, [], ◌∷◌, ◌++◌, Some, None, Option, IsSomeAnd, codes, decimal, ◌==◌, vec_len, ◌⊎◌}
+use Rattle.std.specs.Prelude.{◌≡◌, ◌^◌, ◌≢◌, ℕ, Bool, true, List, [], ◌∷◌, ◌++◌, Some, None, Option, IsSomeAnd, codes, decimal, ◌==◌, length, ◌⊎◌}
 use Rattle.store.specs.Meaning.{Meaning}
 use Rattle.script.specs.declared.commands.Call.{Call as AnyCall}
 use Rattle.script.specs.declared.commands.Command.{Command}
@@ -7,7 +7,7 @@ use Rattle.script.specs.declared.commands.Command.TheVariants.{Archive, Space, C
 use Rattle.script.specs.declared.commands.Plan.{Plan}
 use Rattle.script.specs.Commands.{call_line, command_line, LawfulCall, Lawful}
 use Rattle.console.specs.declared.desk.Desk.{Desk}
-use Rattle.console.specs.Lines.{Adds}
+use Rattle.console.specs.Lines.{Adds, offered}
 
 -- empty lines and comments
 abbrev pub silent : List ℕ → Bool
@@ -35,17 +35,17 @@ bad_line number = codes "bad line " ++ decimal number
 abbrev pub Bad : {S : Type 0} → (S → List ℕ → AnyCall → Option (List ℕ)) → List ℕ → S → Desk → Type 0
 Bad says line s d =
     ((c : Command) → Lawful c → line ≢ command_line c)
-    ⊎ ((c : AnyCall) × (line ≡ call_line c) × LawfulCall c × (says s d.output.items c ≡ None))
+    ⊎ ((c : AnyCall) × (line ≡ call_line c) × LawfulCall c × (says s (offered d) c ≡ None))
 
 module _ {S : Type 0} (says : S → List ℕ → AnyCall → Option (List ℕ)) (leaves : S → List ℕ → AnyCall → S → List ℕ → Type 0) where
   -- an archive is asked for, the space is set, or a call is served
   abbrev pub Done : Command → S → Desk → Option Plan → S → Desk → Type 0
   Done (Archive p) s d plan t e = (plan ≡ Some p) × (t ≡ s) × (e ≡ d)
-  Done (Space n) s d plan t e = (plan ≡ None) × (t ≡ s) × (vec_len e.output ≡ n) × Adds d (ended (space_line n)) e
-  Done (Call c) s d plan t e = (plan ≡ None) × leaves s d.output.items c t e.output.items × IsSomeAnd (says s d.output.items c) (λ line. Adds d (ended line) e)
+  Done (Space n) s d plan t e = (plan ≡ None) × (t ≡ s) × (length (offered e) ≡ n) × Adds d (ended (space_line n)) e
+  Done (Call c) s d plan t e = (plan ≡ None) × leaves s (offered d) c t (offered e) × IsSomeAnd (says s (offered d) c) (λ line. Adds d (ended line) e)
 
   -- a line is done as a lawful command that is written so, or is bad and called so
   abbrev pub Answered : List ℕ → ℕ → S → Desk → Option Plan → S → Desk → Type 0
   Answered line number s d plan t e =
       ((c : Command) × (line ≡ command_line c) × Lawful c × Done c s d plan t e)
-      ⊎ (Bad says line s d × (plan ≡ None) × (t ≡ s) × (e.output ≡ d.output) × Adds d (ended (bad_line number)) e)
+      ⊎ (Bad says line s d × (plan ≡ None) × (t ≡ s) × (offered e ≡ offered d) × Adds d (ended (bad_line number)) e)

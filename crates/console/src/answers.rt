@@ -1,15 +1,29 @@
 // The words of the lines that are printed.
-ghost use Rattle.std.specs.Prelude.{◌++◌, Some, codes, decimal};
+ghost use Rattle.std.specs.Prelude.{◌≤◌, ◌++◌, length, Some, codes, decimal};
 ghost use Rattle.std.specs.Fmt.{WritesOnOk};
 ghost use Rattle.script.specs.Words.{hex, hex_word};
 
-use std::fmt;
+use hex::encode_to_slice;
+use std::{fmt, str};
+
+// So many bytes are written at once: a write for each byte takes several times as long.
+const FEW: usize = 64;
+
+fn write_few<W: fmt::Write>(bytes: &[u8], f: &mut fmt::Formatter<W>) -> fmt::Result
+    requires { length bytes.now ≤ 64 }
+    ensures { WritesOnOk W.write_str_gives f.old result (hex bytes.now) f.new }
+{
+    let mut digits = [0; 2 * FEW];
+    let pairs = &mut digits[..2 * bytes.len()];
+    encode_to_slice(bytes, pairs).map_err(|_| fmt::Error)?;
+    f.write_str(str::from_utf8(pairs).map_err(|_| fmt::Error)?)
+}
 
 fn write_pairs<W: fmt::Write>(bytes: &[u8], f: &mut fmt::Formatter<W>) -> fmt::Result
     ensures { WritesOnOk W.write_str_gives f.old result (hex bytes.now) f.new }
 {
-    for b in bytes {
-        write!(f, "{b:02x}")?;
+    for piece in bytes.chunks(FEW) {
+        write_few(piece, f)?;
     }
     Ok(())
 }

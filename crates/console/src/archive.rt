@@ -10,11 +10,12 @@ ghost use Rattle.store.specs.Meaning.{looked, nexted, taken};
 ghost use Rattle.intake.specs.Taking.{bytes_taken};
 ghost use Rattle.sending.specs.Sender.{new_sender, seal_output, after_seal, share_output};
 ghost use Rattle.console.specs.Fronts.{written_front, opened_front, moved_words};
-ghost use Rattle.console.specs.Lines.{Adds, Says, accepted, sender_line, seal_line, share_line, take_line, dispute_line, look_line, next_line, open_line, free_line, floor_line, advance_words, advance_line};
+ghost use Rattle.console.specs.Lines.{Adds, Says, offered, accepted, sender_line, seal_line, share_line, take_line, dispute_line, look_line, next_line, open_line, free_line, floor_line, advance_words, advance_line};
 ghost use Rattle.console.specs.Serving.{sender_now};
 
 use crate::answers::{Hex, Refusal};
 use crate::desk::{Desk, front};
+use crate::offering::{open_within, seal_within, share_within};
 use crate::printing::{Export, Name, Shown};
 use crate::walk::Serves;
 use copy_bytes::named::{Accepted, NamedCopy};
@@ -55,12 +56,13 @@ fn add_written(
     word: &str,
     written: Result<usize, Refusal>,
 ) -> Result<(), AllocError>
-    ensures line { OnOk result (Adds desk.old (word.now ++ written_front written desk.old.output.items) desk.new) }
-    ensures output { desk.new.output ≡ desk.old.output }
+    ensures line { OnOk result (Adds desk.old (word.now ++ written_front written (offered desk.old)) desk.new) }
+    ensures output { offered desk.new ≡ offered desk.old }
 {
+    let offered = front(&desk.output, desk.space);
     desk.answers.push_str(word)?;
     match written {
-        Ok(n) => write!(desk.answers, " {}", Hex(front(&desk.output, n))),
+        Ok(n) => write!(desk.answers, " {}", Hex(front(offered, n))),
         Err(refusal) => write!(desk.answers, " {refusal}"),
     }
 }
@@ -68,12 +70,13 @@ fn add_written(
 // A message that was opened: its index, the hashes of the advance, and the text in front of the output.
 #[tactic(auto, unfolding(crate::specs::Fronts::opened_front))]
 fn add_opened(desk: &mut Desk, opened: Result<Opened, OpenRefusal>) -> Result<(), AllocError>
-    ensures line { OnOk result (Adds desk.old (codes "open" ++ opened_front opened desk.old.output.items) desk.new) }
-    ensures output { desk.new.output ≡ desk.old.output }
+    ensures line { OnOk result (Adds desk.old (codes "open" ++ opened_front opened (offered desk.old)) desk.new) }
+    ensures output { offered desk.new ≡ offered desk.old }
 {
+    let offered = front(&desk.output, desk.space);
     match opened {
         Ok(opened) => {
-            let text = Hex(front(&desk.output, opened.size));
+            let text = Hex(front(offered, opened.size));
             write!(
                 desk.answers,
                 "open {} {} {text}",
@@ -137,10 +140,10 @@ impl<P: Suite, S: Store<Id, Holding<P>>> Archive<S, P> {
     }
 
     fn open(&self, id: Id, message: &[u8], desk: &mut Desk) -> Result<(), AllocError>
-        ensures line { OnOk result (Adds desk.old (open_line P.suite (S.means self.now.store) id message.now desk.old.output.items) desk.new) }
-        ensures output { OnOk result (desk.new.output.items ≡ open_output (unsealed P.suite (looked id_number (S.means self.now.store) id) message.now) desk.old.output.items) }
+        ensures line { OnOk result (Adds desk.old (open_line P.suite (S.means self.now.store) id message.now (offered desk.old)) desk.new) }
+        ensures output { OnOk result (offered desk.new ≡ open_output (unsealed P.suite (looked id_number (S.means self.now.store) id) message.now) (offered desk.old)) }
     {
-        let opened = open(&self.store, id, message, &mut desk.output);
+        let opened = open_within(&self.store, id, message, &mut desk.output, desk.space);
         add_opened(desk, opened)
     }
 
@@ -186,19 +189,19 @@ impl<P: Suite, S: Store<Id, Holding<P>>> Archive<S, P> {
 
 // What a sender answers.
 fn seal<P: Suite>(sender: &mut Sender<P>, text: &[u8], desk: &mut Desk) -> Result<(), AllocError>
-    ensures line { OnOk result (Adds desk.old (seal_line P.suite sender.old text.now desk.old.output.items) desk.new) }
-    ensures output { desk.new.output.items ≡ seal_output P.suite sender.old text.now desk.old.output.items }
-    ensures sender { sender.new ≡ after_seal P.suite sender.old text.now desk.old.output.items }
+    ensures line { OnOk result (Adds desk.old (seal_line P.suite sender.old text.now (offered desk.old)) desk.new) }
+    ensures output { offered desk.new ≡ seal_output P.suite sender.old text.now (offered desk.old) }
+    ensures sender { sender.new ≡ after_seal P.suite sender.old text.now (offered desk.old) }
 {
-    let written = sender.seal(text, &mut desk.output);
+    let written = seal_within(sender, text, &mut desk.output, desk.space);
     add_written(desk, "seal", written.map_err(Refusal::of))
 }
 
 fn share<P: Suite>(sender: &Sender<P>, index: u32, desk: &mut Desk) -> Result<(), AllocError>
-    ensures line { OnOk result (Adds desk.old (share_line P.suite sender.now index desk.old.output.items) desk.new) }
-    ensures output { desk.new.output.items ≡ share_output P.suite sender.now index desk.old.output.items }
+    ensures line { OnOk result (Adds desk.old (share_line P.suite sender.now index (offered desk.old)) desk.new) }
+    ensures output { offered desk.new ≡ share_output P.suite sender.now index (offered desk.old) }
 {
-    let written = sender.share(index, &mut desk.output);
+    let written = share_within(sender, index, &mut desk.output, desk.space);
     add_written(desk, "share", written.map_err(Refusal::of))
 }
 

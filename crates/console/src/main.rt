@@ -1,14 +1,15 @@
 // Reads a script of calls on standard input, and prints every answer.
 #![tactic(auto)]
 
-ghost use Rattle.std.specs.Prelude.{◌≡◌, IfOk, OnOk, OnSome, vec_len};
-ghost use Rattle.script.specs.Script.{IsShorter};
-ghost use Rattle.console.specs.Lines.{Adds};
+ghost use Rattle.std.specs.Prelude.{◌≡◌, IfOk, OnOk, OnSome, length};
+ghost use Rattle.script.specs.Script.{unread, IsShorter};
+ghost use Rattle.console.specs.Lines.{Adds, offered};
 ghost use Rattle.console.specs.Walking.{ended, archive_line, most_space};
 
 mod answers;
 mod archive;
 mod desk;
+mod offering;
 mod printing;
 mod walk;
 
@@ -31,7 +32,7 @@ use walk::Session;
 // What is said of a new archive; its calls are offered the most space.
 fn greet<P: Suite, S: Store<Id, Holding<P>>>(store: &S, desk: &mut Desk) -> Result<(), AllocError>
     ensures line { OnOk result (Adds desk.old (ended (archive_line (S.means store.now))) desk.new) }
-    ensures space { OnOk result (vec_len desk.new.output ≡ most_space) }
+    ensures space { OnOk result (length (offered desk.new) ≡ most_space) }
 {
     desk.offer(MOST_SPACE)?;
     writeln!(desk.answers, "archive {} {}", store.free(), store.floor())
@@ -42,7 +43,7 @@ fn serve_over<P: Suite, S: Store<Id, Holding<P>> + Drop, W: Write>(
     store: S,
     session: &mut Session<'_, W>,
 ) -> io::Result<Option<Plan>>
-    ensures { IfOk result (λ o. OnSome o (IsShorter session.new.script session.old.script)) }
+    ensures { IfOk result (λ o. OnSome o (IsShorter (unread session.new.script) (unread session.old.script))) }
 {
     greet(&store, &mut session.desk)?;
     let mut archive = Archive {
@@ -54,7 +55,7 @@ fn serve_over<P: Suite, S: Store<Id, Holding<P>> + Drop, W: Write>(
 
 // Makes an archive, and answers up to the next one or the end.
 fn serve<P: Suite, W: Write>(plan: Plan, session: &mut Session<'_, W>) -> io::Result<Option<Plan>>
-    ensures { IfOk result (λ o. OnSome o (IsShorter session.new.script session.old.script)) }
+    ensures { IfOk result (λ o. OnSome o (IsShorter (unread session.new.script) (unread session.old.script))) }
 {
     let mut slots = vec![in session.desk.heap; None::<(Id, Holding<P>)>; plan.places]?;
     let store = FloorLayer {

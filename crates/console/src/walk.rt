@@ -1,11 +1,11 @@
 // The walk over the lines of a script.
-ghost use Rattle.std.specs.Prelude.{◌≡◌, ℕ, true, false, List, IfOk, Ok, Err, Option, None, OnOk, OnSome, IsSomeAnd, vec_len};
+ghost use Rattle.std.specs.Prelude.{◌≡◌, ℕ, true, false, List, IfOk, Ok, Err, Option, None, OnOk, OnSome, IsSomeAnd, length};
 ghost use Rattle.script.specs.declared.commands.Call.{Call};
 ghost use Rattle.script.specs.declared.fault.LineFault.TheVariants.{BadLine};
 ghost use Rattle.script.specs.declared.commands.Command.{Command};
 ghost use Rattle.script.specs.Commands.{command_line, Lawful};
-ghost use Rattle.script.specs.Script.{IsShorter};
-ghost use Rattle.console.specs.Lines.{Adds};
+ghost use Rattle.script.specs.Script.{unread, IsShorter};
+ghost use Rattle.console.specs.Lines.{Adds, offered};
 ghost use Rattle.console.specs.Walking.{silent, ended, space_line, Bad, Done, Answered};
 
 use crate::desk::Desk;
@@ -26,15 +26,15 @@ pub(crate) trait Serves {
 
     // Does a call, or says that it is a bad line and alters nothing.
     fn serve(&mut self, call: Call, desk: &mut Desk) -> Result<(), LineFault>
-        ensures bad { result ≡ Err BadLine → says self.old desk.old.output.items call ≡ None }
+        ensures bad { result ≡ Err BadLine → says self.old (offered desk.old) call ≡ None }
         ensures server { result ≡ Err BadLine → self.new ≡ self.old }
         ensures desk { result ≡ Err BadLine → desk.new ≡ desk.old }
-        ensures says { OnOk result (IsSomeAnd (says self.old desk.old.output.items call) (λ line. Adds desk.old (ended line) desk.new)) }
-        ensures leaves { OnOk result (leaves self.old desk.old.output.items call self.new desk.new.output.items) };
+        ensures says { OnOk result (IsSomeAnd (says self.old (offered desk.old) call) (λ line. Adds desk.old (ended line) desk.new)) }
+        ensures leaves { OnOk result (leaves self.old (offered desk.old) call self.new (offered desk.new)) };
 }
 
 fn set_space(desk: &mut Desk, space: usize) -> Result<(), AllocError>
-    ensures { OnOk result ((vec_len desk.new.output ≡ space) × Adds desk.old (ended (space_line space)) desk.new) }
+    ensures { OnOk result ((length (offered desk.new) ≡ space) × Adds desk.old (ended (space_line space)) desk.new) }
 {
     desk.offer(space)?;
     writeln!(desk.answers, "space {space}")
@@ -90,7 +90,7 @@ pub(crate) struct Session<'a, W> {
 impl<'a, W: Write> Session<'a, W> {
     // Answers line by line, up to the next archive that is asked for, or to the end.
     pub(crate) fn walk<S: Serves>(&mut self, server: &mut S) -> io::Result<Option<Plan>>
-        ensures { IfOk result (λ o. OnSome o (IsShorter self.new.script self.old.script)) }
+        ensures { IfOk result (λ o. OnSome o (IsShorter (unread self.new.script) (unread self.old.script))) }
     {
         while let Some(line) = self.script.next() {
             let plan = answer(line, self.script.lines(), server, &mut self.desk)?;

@@ -20,7 +20,7 @@ cut xs cipher tag index from e =
     λ i. record { index = index; body = front i; cipher = middle i; tag = back i }
 
 module _ {P : Type 0} (m : Meaning P) where
-  read_back : (index : ℕ) (cipher tag : List ℕ) → index < 2 ^ 32 → m.allowed (length cipher) ≡ true → length tag ≡ 8 → length (message_bytes m index cipher tag) ≤ 4130
+  pub read_back : (index : ℕ) (cipher tag : List ℕ) → index < 2 ^ 32 → m.allowed (length cipher) ≡ true → length tag ≡ 8 → length (message_bytes m index cipher tag) ≤ 4130
       → framed m (message_bytes m index cipher tag) ≡ Ok (record { index = index; body = body m index cipher; cipher = cipher; tag = tag })
   unfolding framed head
   read_back index cipher tag small allowed eight short =

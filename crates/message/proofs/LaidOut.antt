@@ -1,18 +1,19 @@
 -- What is read of a message was laid out so.
-use Rattle.std.proofs.Common.{◌≡◌, ℕ, suc, ◌+◌, ◌^◌, ◌<◌, ◌≤◌, true, eqb, List, [], ◌∷◌, ◌++◌, length, take, drop, Some, None, Option, Ok, sym, refl, ap, subst, add-one, ◌∙◌, arith}
+use Rattle.std.proofs.Common.{◌≡◌, ℕ, suc, ◌+◌, ◌-◌, ◌^◌, ◌<◌, ◌≤◌, true, eqb, List, [], ◌∷◌, ◌++◌, length, take, drop, Some, None, Option, Ok, sym, refl, ap, subst, add-one, ◌∙◌, arith}
 use Rattle.std.proofs.lemmas.Bool.{eqb-true}
 use Rattle.std.proofs.lemmas.Bool.Decides.{nat_tests}
-use Rattle.std.proofs.lemmas.List.{take-append-drop, length-take-le, length-drop}
+use Rattle.std.proofs.lemmas.List.{length-append, take-append-drop, length-take-le, length-drop}
 use Rattle.std.proofs.Math.Seq.{take-add}
 use Rattle.std.specs.List.{AllByRecursion}
+use Rattle.std.specs.Result.{result_map_both}
 use Rattle.std.proofs.ByRecursion.{All-drop}
 use Rattle.ratchet.specs.Bytes.{Byte}
 use Rattle.ratchet.specs.Suite.{Meaning}
 use Rattle.ratchet.proofs.Choices.{passed, checked}
 use Rattle.message.specs.declared.frame.FrameFault.TheVariants.{Start, Cipher, Length}
 use Rattle.message.specs.Varint.{varint, read_varint}
-use Rattle.message.specs.Frame.{head, body, Framed, parted, keyed, starts, sized, cipher_at, indexed, framed, LaysOut, FrameLaws}
-use Rattle.message.proofs.Frames.{read_as_laid}
+use Rattle.message.specs.Frame.{head, body, Framed, parted, keyed, starts, sized, cipher_at, indexed, framed, place_of, FrameLaw, LaysOut, FrameLaws}
+use Rattle.message.proofs.Frames.{read_back, read_as_laid, message_size}
 use Rattle.message.proofs.Varints.{varint_laws_lem}
 
 keyed_read : (key : ℕ) (bs : List ℕ) (v k : ℕ) → AllByRecursion Byte bs → keyed key bs ≡ Some (v, k) → (take (suc k) bs ≡ key ∷ varint v) × (v < 2 ^ 32)
@@ -82,5 +83,23 @@ read_laid m (b ∷ rest) f bytes h =
     subst (LaysOut m bs) {x = parted bs index (2 + k + 1 + l) n} z.parts
     (parted_so m bs index n (2 + k + 1 + l) (joined m b index n k l rest is one.0 two.0) z.long one.1 z.allowed short)
 
+pub cipher_in_body : {P : Type 0} (m : Meaning P) (bs : List ℕ) (f : Framed) → framed m bs ≡ Ok f → length f.cipher ≤ length f.body
+unfolding framed
+cipher_in_body m bs f h =
+    let (so, after) = checked (starts m bs) (indexed m bs (keyed 8 (drop 1 bs))) Start f h in
+    let (index, k, i, at) = indexed_read m bs f (keyed 8 (drop 1 bs)) after in
+    let (n, l, j, z) = sized_read m bs f index (2 + k) (keyed 18 (drop (2 + k) bs)) at in
+    let from = 2 + k + 1 + l in
+    let cipher = length-take-le n (drop from bs) (omega (arith, length-drop from bs, z.long)) in
+    let body = length-take-le (from + n) bs (omega (arith, z.long)) in
+    subst (λ (g : Framed). length g.cipher ≤ length g.body) {x = parted bs index from n} z.parts (omega arith)
+
+-- a body without its cipher is a head
+place_law : {P : Type 0} (m : Meaning P) → FrameLaw m
+place_law m index cipher tag small allowed short eight =
+    let from : length (body m index cipher) - length cipher ≡ length (head m index (length cipher)) = omega (arith, length-append (head m index (length cipher)) cipher) in
+    ap (result_map_both place_of (λ e. e)) (read_back m index cipher tag small allowed eight (message_size m index cipher tag small short eight))
+    ∙ ap (λ (j : ℕ). Ok (record { index = index; from = j; size = length cipher })) from
+
 pub frame_laws_lem : {P : Type 0} (m : Meaning P) → FrameLaws m
-frame_laws_lem m = record { back = read_as_laid m; forth = read_laid m }
+frame_laws_lem m = record { back = read_as_laid m; forth = read_laid m; place = place_law m }

@@ -1,8 +1,10 @@
 -- The layout of a message, and what reading one answers.
-use Rattle.std.specs.Prelude.{◌≡◌, ℕ, ◌+◌, ◌^◌, ◌<◌, ◌≤◌, Bool, true, cond, ◌&&◌, List, [], ◌∷◌, ◌++◌, length, take, drop, Some, None, Ok, Err, Option, Result, ◌==◌, nat_le, slice_index}
+use Rattle.std.specs.Prelude.{◌≡◌, ℕ, ◌+◌, ◌-◌, ◌^◌, ◌<◌, ◌≤◌, Bool, true, cond, ◌&&◌, List, [], ◌∷◌, ◌++◌, length, take, drop, Some, None, Ok, Err, Option, Result, ◌==◌, nat_le, slice_index}
 use Rattle.std.specs.List.{AllByRecursion}
+use Rattle.std.specs.Result.{result_map_both}
 use Rattle.ratchet.specs.Bytes.{Byte}
 use Rattle.ratchet.specs.Suite.{Meaning}
+use Rattle.message.specs.declared.frame.Frame.{Frame}
 use Rattle.message.specs.declared.frame.FrameFault.{FrameFault}
 use Rattle.message.specs.declared.frame.FrameFault.TheVariants.{Start, Index, Cipher, Length}
 use Rattle.message.specs.Varint.{varint, read_varint}
@@ -17,6 +19,10 @@ body m index cipher = head m index (length cipher) ++ cipher
 
 abbrev pub message_bytes : {P : Type 0} → Meaning P → ℕ → List ℕ → List ℕ → List ℕ
 message_bytes m index cipher tag = body m index cipher ++ tag
+
+-- where the cipher of such a message stands
+abbrev pub frame_of : {P : Type 0} → Meaning P → ℕ → List ℕ → Frame
+frame_of m index cipher = record { index = index; from = length (head m index (length cipher)); size = length cipher }
 
 -- what a message tells: its index, all that its tag is of, the cipher at the end of that, and the tag
 pub record Framed : Type 0 where
@@ -56,6 +62,20 @@ indexed m bs (Some (index, k)) = cipher_at m bs index (2 + k)
 unfoldable pub framed : {P : Type 0} → Meaning P → List ℕ → Result Framed FrameFault
 framed m bs = cond (starts m bs) (indexed m bs (keyed 8 (drop 1 bs))) (Err Start)
 
+-- the cipher ends the body
+abbrev pub place_of : Framed → Frame
+place_of f = record { index = f.index; from = length f.body - length f.cipher; size = length f.cipher }
+
+-- the index of a message and where its cipher stands, or what is wrong
+abbrev pub placed : {P : Type 0} → Meaning P → List ℕ → Result Frame FrameFault
+placed m bs = result_map_both place_of (λ e. e) (framed m bs)
+
+-- a message is read as it was laid out, by the place of its cipher
+abbrev pub FrameLaw : {P : Type 0} → Meaning P → Type 0
+FrameLaw m =
+    (index : ℕ) (cipher tag : List ℕ) → index < 2 ^ 32 → m.allowed (length cipher) ≡ true → length cipher ≤ 4112 → length tag ≡ 8
+    → placed m (message_bytes m index cipher tag) ≡ Ok (frame_of m index cipher)
+
 -- a message lays out the parts that it tells
 pub record LaysOut {P : Type 0} (m : Meaning P) (bs : List ℕ) (f : Framed) : Type 0 where
   pub whole : message_bytes m f.index f.cipher f.tag ≡ bs
@@ -70,3 +90,5 @@ pub record FrameLaws {P : Type 0} (m : Meaning P) : Type 0 where
   pub back : (bs : List ℕ) (f : Framed) → LaysOut m bs f → framed m bs ≡ Ok f
   -- and nothing else is a message
   pub forth : (bs : List ℕ) (f : Framed) → AllByRecursion Byte bs → framed m bs ≡ Ok f → LaysOut m bs f
+  -- index and cipher are found where they were laid out
+  pub place : FrameLaw m

@@ -1,14 +1,22 @@
 ghost use Rattle.std.specs.Prelude.{◌≡◌, ◌<◌, ◌≤◌, length, IfSome};
-ghost use Rattle.message.specs.Frame.{keyed, starts, cipher_at, framed, FrameLaws};
+ghost use Rattle.message.specs.Frame.{keyed, starts, cipher_at, framed, placed, FrameLaws};
 ghost use Rattle.message.specs.Numbers.{frame_number};
 
 use crate::varint::read_varint;
 use ratchet::suite::Suite;
 use std::marker::{Model, PhantomData};
 
+// What a message says before its cipher, and where in its bytes the cipher stands; the tag follows the cipher.
+#[derive(Clone, Copy, Debug, PartialEq, Eq)]
+pub struct Frame {
+    pub index: u32,
+    pub from: usize,
+    pub size: usize,
+}
+
 // A message as a suite P lays it out: its index, and the parts of its bytes. The cipher ends the body.
 #[derive(Clone, Debug, Drop)]
-pub struct Frame<'a, P: Suite> {
+pub struct Parts<'a, P: Suite> {
     pub index: u32,
     // All that the tag is of.
     pub body: &'a [u8],
@@ -17,7 +25,7 @@ pub struct Frame<'a, P: Suite> {
     suite: PhantomData<P>,
 }
 
-impl<'a, P: Suite> Model for Frame<'a, P> {
+impl<'a, P: Suite> Model for Parts<'a, P> {
     ghost use Rattle.std.specs.Prelude.{◌≡◌, ◌≤◌, true, length};
     ghost use Rattle.message.specs.Frame.{Framed};
 
@@ -68,7 +76,7 @@ fn read_cipher<'a, P: Suite>(
     message: &'a [u8],
     index: u32,
     at: usize,
-) -> Result<Frame<'a, P>, FrameFault>
+) -> Result<Parts<'a, P>, FrameFault>
     requires within { (3 ≤ at) × (at ≤ length message.now) }
     requires short { length message.now ≤ 4130 }
     ensures { result ≡ cipher_at P.suite message.now index at }
@@ -85,7 +93,7 @@ fn read_cipher<'a, P: Suite>(
         return Err(FrameFault::Length);
     }
     let body = &message[..from + cipher.len()];
-    Ok(Frame {
+    Ok(Parts {
         index,
         body,
         cipher,
@@ -94,9 +102,9 @@ fn read_cipher<'a, P: Suite>(
     })
 }
 
-// Reads a message.
+// Reads a message into its parts.
 #[tactic(auto, unfolding(crate::specs::Frame::framed))]
-pub fn read_frame<P: Suite>(message: &[u8]) -> Result<Frame<'_, P>, FrameFault>
+pub fn read_parts<P: Suite>(message: &[u8]) -> Result<Parts<'_, P>, FrameFault>
     ensures { result ≡ framed P.suite message.now }
 {
     if !starts_right::<P>(message) {
@@ -106,8 +114,21 @@ pub fn read_frame<P: Suite>(message: &[u8]) -> Result<Frame<'_, P>, FrameFault>
     read_cipher::<P>(message, index, 2 + k)
 }
 
+// Reads a message up to its cipher.
+pub fn read_frame<P: Suite>(message: &[u8]) -> Result<Frame, FrameFault>
+    ensures { result ≡ placed P.suite message.now }
+{
+    let parts = read_parts::<P>(message)?;
+    let size = parts.cipher.len();
+    let from = parts.body.len() - size;
+    Ok(Frame {
+        index: parts.index,
+        from,
+        size,
+    })
+}
+
 // A message is read as it was laid out, and nothing else is read.
-#[tactic(auto, using(crate::proofs::LaidOut::frame_laws_lem))]
 pub fn frame_laws<P: Suite>()
     ensures { FrameLaws P.suite }
 {}

@@ -2,7 +2,7 @@ ghost use Rattle.std.specs.Prelude.{◌≡◌, ◌≤◌, IfOk};
 ghost use Rattle.opening.specs.Open.{frame_refusal, advance_refusal, held_at, checked, unsealed, told, text_over};
 ghost use Rattle.opening.specs.Numbers.{open_number};
 
-use message::frame::{Frame, FrameFault, read_frame};
+use message::frame::{FrameFault, Parts, read_parts};
 use ratchet::advance::advance;
 use ratchet::copies::{AdvanceRefusal, Advanced, Holding};
 use ratchet::suite::Suite;
@@ -75,7 +75,7 @@ fn held_at<P: Suite>(shown: Option<Holding<P>>, index: u32) -> Result<Advanced<P
 
 // Checks the tag, and then deciphers into a scratch.
 fn check<P: Suite>(
-    frame: &Frame<P>,
+    frame: &Parts<P>,
     there: &Advanced<P>,
     scratch: &mut [u8; 4111],
 ) -> Result<Opened, OpenRefusal>
@@ -105,7 +105,7 @@ pub fn unseal<P: Suite>(
     ensures after { scratch.new ≡ text_over (unsealed P.suite shown message.now) scratch.old }
     ensures fits { IfOk result (λ o. o.size ≤ 4111) }
 {
-    let frame = read_frame(message)?;
+    let frame = read_parts(message)?;
     let there = held_at(shown, frame.index)?;
     check(&frame, &there, scratch)
 }

@@ -1,11 +1,17 @@
 -- A script as its lines.
 use Rattle.std.specs.Prelude.{◌≡◌, ℕ, suc, ◌+◌, ◌-◌, ◌^◌, ◌<◌, min, List, length, Some, None, Option, MatchOption, OnSome}
+use Rattle.std.specs.Option.{option_map}
+use Rattle.script.specs.declared.lines.Script.{Script}
 use Rattle.script.specs.Words.{upto, behind}
 
 -- what is left of a script, none once its last line was given out, and how many lines were given out
 pub record Unread : Type 0 where
   pub rest : Option (List ℕ)
   pub lines : ℕ
+
+-- a script seen so, wherever its bytes lie
+abbrev pub unread : Script → Unread
+unread s = record { rest = option_map (λ x. x.now) s.rest; lines = s.lines }
 
 -- the first line of what is left of a script
 abbrev pub first_line : Option (List ℕ) → Option (List ℕ)

@@ -2,18 +2,17 @@
 ghost use Rattle.std.specs.Prelude.{◌≡◌, ◌<◌, Some};
 ghost use Rattle.std.specs.Option.{option_map};
 ghost use Rattle.std.specs.Iterator.{at_most};
-ghost use Rattle.script.specs.Script.{extent, GivesLine};
+ghost use Rattle.script.specs.Script.{unread, extent, GivesLine};
 ghost use Rattle.script.specs.Words.{upto, behind};
 
 use crate::words::split_once;
-use std::marker::Model;
 
 // What is left to read, none once the last line was given out, and how many lines were given out.
 // The library's `split` with `enumerate` does not stand in: the type of its closure has no name to keep in a field.
-#[derive(Clone, Drop)]
+#[derive(Clone, Copy)]
 pub struct Script<'a> {
-    rest: Option<&'a [u8]>,
-    lines: u64,
+    pub rest: Option<&'a [u8]>,
+    pub lines: u64,
 }
 
 // The first line of a text, and what stands behind it, which is less.
@@ -25,18 +24,9 @@ fn cut_line(text: &[u8]) -> (&[u8], Option<&[u8]>)
     split_once(text, b'\n').map_or((text, None), |(line, rest)| (line, Some(rest)))
 }
 
-impl<'a> Model for Script<'a> {
-    ghost use Rattle.std.specs.Option.{option_map};
-    ghost use Rattle.script.specs.Script.{Unread};
-
-    ghost Value = { Unread };
-
-    ghost view = { λ s. record { rest = option_map (λ x. x.now) s.rest; lines = s.lines } };
-}
-
 impl<'a> Script<'a> {
     pub fn new(text: &'a [u8]) -> Script<'a>
-        ensures rest { result.rest ≡ Some text.now }
+        ensures rest { option_map (λ x. x.now) result.rest ≡ Some text.now }
         ensures lines { result.lines ≡ 0 }
     {
         Script {
@@ -57,9 +47,9 @@ impl<'a> Script<'a> {
 impl<'a> Iterator for Script<'a> {
     type Item = &'a [u8];
 
-    ghost next_gives = { λ s line t. GivesLine s (option_map (λ x. x.now) line) t };
+    ghost next_gives = { λ s line t. GivesLine (unread s) (option_map (λ x. x.now) line) (unread t) };
 
-    ghost remaining = { λ s. at_most (extent s.rest) };
+    ghost remaining = { λ s. at_most (extent (unread s).rest) };
 
     fn next(&mut self) -> Option<&'a [u8]> {
         let (line, rest) = cut_line(self.rest?);

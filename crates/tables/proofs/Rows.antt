@@ -1,6 +1,6 @@
 -- What the entries in slots come to in order: what is found of them, and which is the lowest above a key.
-use Rattle.std.proofs.Common.{◌≡◌, ℕ, zero, suc, min, take, replicate, is_none, count_by, ◌==◌, true, Bool, cond, eqb, nat_lt, List, [], ◌∷◌, find, filter, fold, Some, None, Option, option_map, sym, refl, ap, ◌∙◌, inl, inr, arith}
-use Rattle.std.specs.List.{reduce}
+use Rattle.std.proofs.Common.{◌≡◌, ℕ, zero, suc, min, take, replicate, is_none, count_by, ◌==◌, true, Bool, cond, eqb, nat_lt, List, [], ◌∷◌, find, filter, flat_map, option_to_list, fold, Some, None, Option, option_map, sym, refl, ap, ◌∙◌, inl, inr, arith}
+use Rattle.std.specs.List.{filter_map, reduce}
 use Rattle.std.specs.Option.{option_map_or}
 use Rattle.std.proofs.lemmas.List.Sums.{sum_by-cons}
 use Rattle.std.proofs.lemmas.Bool.Decides.{nat_tests}
@@ -9,6 +9,12 @@ use Rattle.store.specs.Maps.{Rising, found, beyond, put, first, in_order}
 use Rattle.store.specs.Meaning.{Meaning, empty}
 use Rattle.tables.specs.Slots.{slots_mean}
 use Rattle.store.proofs.Lookups.{more, found_put, in_order_rising}
+
+-- the entries in slots are what is left without the free ones
+pub held : {X : Type 0} (s : List (Option X)) → filter_map (λ x. x) s ≡ flat_map option_to_list s
+held [] = refl
+held (None ∷ s) = held s
+held (Some x ∷ s) = ap (λ xs. x ∷ xs) (held s)
 
 module _ {K V : Type 0} (rank : K → ℕ) where
   last : (o : Option V) (v : V) → more (λ _ w. w) o v ≡ v

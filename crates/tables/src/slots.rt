@@ -1,5 +1,5 @@
-ghost use Rattle.std.specs.Prelude.{◌≡◌, take, drop, cond, true, false, None, Err, position, is_none, count_by, find, filter, flat_map, option_to_list};
-ghost use Rattle.std.specs.List.{reduce};
+ghost use Rattle.std.specs.Prelude.{◌≡◌, take, drop, cond, true, false, None, Err, position, is_none, count_by, find, filter};
+ghost use Rattle.std.specs.List.{filter_map, reduce};
 ghost use Rattle.std.specs.Option.{option_map_or};
 ghost use Rattle.std.specs.Ordering.{partial_lt};
 ghost use Rattle.store.specs.declared.refusal.StoreRefusal.TheVariants.{NoPlace};
@@ -22,6 +22,7 @@ pub(crate) fn used<K: TableKey, V: Copy>(slots: &[Slot<K, V>]) -> &[Slot<K, V>]
 
 // A chain's law is found only at a function of its own, so this one, `entry_of` and `lowest_above`
 // retrace their chains, and the callers' proofs say what that means for keys in order.
+// They skip free slots by `filter_map`: `flatten` copies each entry out, and takes several times as long.
 fn key_place<K: Key, V: Copy>(slots: &[Slot<K, V>], key: K) -> Option<usize>
     ensures { result ≡ position (λ s. option_map_or (λ e. K.eq e.0 key) s false) slots.now }
 {
@@ -41,18 +42,18 @@ pub(crate) fn count_free<K: Copy, V: Copy>(slots: &[Slot<K, V>]) -> usize
 }
 
 pub(crate) fn entry_of<K: Key, V: Copy>(slots: &[Slot<K, V>], key: K) -> Option<(K, V)>
-    ensures { result ≡ find (λ e. K.eq e.0 key) (flat_map option_to_list slots.now) }
+    ensures { result ≡ find (λ e. K.eq e.0 key) (filter_map (λ s. s) slots.now) }
 {
-    slots.iter().copied().flatten().find(|e| e.0 == key)
+    slots.iter().copied().filter_map(|s| s).find(|e| e.0 == key)
 }
 
 pub(crate) fn lowest_above<K: Key, V: Copy>(slots: &[Slot<K, V>], last: Option<K>) -> Option<(K, V)>
-    ensures { result ≡ reduce (λ a b. cond (partial_lt K.partial_cmp b.0 a.0) b a) (filter (λ e. option_map_or (λ q. partial_lt K.partial_cmp q e.0) last true) (flat_map option_to_list slots.now)) }
+    ensures { result ≡ reduce (λ a b. cond (partial_lt K.partial_cmp b.0 a.0) b a) (filter (λ e. option_map_or (λ q. partial_lt K.partial_cmp q e.0) last true) (filter_map (λ s. s) slots.now)) }
 {
     slots
         .iter()
         .copied()
-        .flatten()
+        .filter_map(|s| s)
         .filter(|e| last.is_none_or(|q| q < e.0))
         .reduce(|a, b| if b.0 < a.0 { b } else { a })
 }

@@ -1,15 +1,16 @@
-use Rattle.std.proofs.Common.{rules, ap}
+use Rattle.std.proofs.Common.{rules, ◌≡◌, ◌++◌, append_assoc, sym, ap, ◌∙◌}
 use Rattle.std.proofs.Output.{has_written_append, has_written_of_eq}
-use Rattle.std.proofs.lemmas.List.{take_all}
-use Rattle.script.specs.Words.{hex}
-use Rattle.console.proofs.Hexed.{hex_more}
+use Rattle.script.proofs.Hex.{hex-append}
 use Rattle.console.proofs.answers.write_pairs.Goals as goal
 
-pub loop-b-preserved : goal.loop-b-preserved
-loop-b-preserved g c = λ plain.
-    let next = hex_more c.args.bytes.now c.loop-b.b-index c.loop-b-test.true (c.type_inv.bytes c.loop-b.b-index) in
-    has_written_of_eq _ _ _ _ _ next (has_written_append _ _ _ _ _ _ (c.loop-b.invariant plain) (search rules))
-
-pub returns : goal.returns
-returns g c = λ plain _.
-    has_written_of_eq _ _ _ _ _ (ap hex (take_all c.loop-b.b-index c.args.bytes.now c.loop-b-test.false)) (c.loop-b.invariant plain)
+pub loop-piece-preserved : goal.loop-piece-preserved
+loop-piece-preserved g c =
+    let whole : c.loop-piece.piece-iterator.rest.now ≡ c.in-Some.piece.now ++ c.next.new.self.rest.now = search rules in (
+      search rules,
+      λ plain.
+          let so_far = c.loop-piece.invariant.1 plain in (
+            so_far.0 ++ c.in-Some.piece.now,
+            so_far.1 ∙ ap (λ xs. so_far.0 ++ xs) whole ∙ sym (append_assoc so_far.0 c.in-Some.piece.now c.next.new.self.rest.now),
+            has_written_of_eq _ _ _ _ _ (sym (hex-append so_far.0 c.in-Some.piece.now)) (has_written_append _ _ _ _ _ _ so_far.2 (search rules)),
+          ),
+    )
