@@ -40,7 +40,7 @@ Adds old line new = string_bytes new.answers ≡ string_bytes old.answers ++ lin
 
 -- the same by a call that leaves what it was offered for its output
 abbrev pub Says : Desk → List ℕ → Desk → Type 0
-Says old line new = Adds old line new × (offered new ≡ offered old)
+Says old line new = Adds old line new × (new.output ≡ old.output) × (new.space ≡ old.space)
 
 -- what a store means here
 abbrev pub Contents : Type 0 → Type 0

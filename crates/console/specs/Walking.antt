@@ -48,4 +48,4 @@ module _ {S : Type 0} (says : S → List ℕ → AnyCall → Option (List ℕ)) 
   abbrev pub Answered : List ℕ → ℕ → S → Desk → Option Plan → S → Desk → Type 0
   Answered line number s d plan t e =
       ((c : Command) × (line ≡ command_line c) × Lawful c × Done c s d plan t e)
-      ⊎ (Bad says line s d × (plan ≡ None) × (t ≡ s) × (offered e ≡ offered d) × Adds d (ended (bad_line number)) e)
+      ⊎ (Bad says line s d × (plan ≡ None) × (t ≡ s) × (e.output ≡ d.output) × (e.space ≡ d.space) × Adds d (ended (bad_line number)) e)

@@ -57,7 +57,7 @@ fn add_written(
     written: Result<usize, Refusal>,
 ) -> Result<(), AllocError>
     ensures line { OnOk result (Adds desk.old (word.now ++ written_front written (offered desk.old)) desk.new) }
-    ensures output { offered desk.new ≡ offered desk.old }
+    ensures output { (desk.new.output ≡ desk.old.output) × (desk.new.space ≡ desk.old.space) }
 {
     let offered = front(&desk.output, desk.space);
     desk.answers.push_str(word)?;
@@ -71,7 +71,7 @@ fn add_written(
 #[tactic(auto, unfolding(crate::specs::Fronts::opened_front))]
 fn add_opened(desk: &mut Desk, opened: Result<Opened, OpenRefusal>) -> Result<(), AllocError>
     ensures line { OnOk result (Adds desk.old (codes "open" ++ opened_front opened (offered desk.old)) desk.new) }
-    ensures output { offered desk.new ≡ offered desk.old }
+    ensures output { (desk.new.output ≡ desk.old.output) × (desk.new.space ≡ desk.old.space) }
 {
     let offered = front(&desk.output, desk.space);
     match opened {

@@ -50,7 +50,8 @@ impl Desk {
     pub(crate) fn write_out<W: Write>(&mut self, sink: &mut W) -> io::Result<()>
         ensures sink { OnOk result (Appends (W.contents sink.old) (W.contents sink.new) (string_bytes self.old.answers)) }
         ensures answers { OnOk result (string_bytes self.new.answers ≡ []) }
-        ensures output { offered self.new ≡ offered self.old }
+        ensures output { self.new.output ≡ self.old.output }
+        ensures space { self.new.space ≡ self.old.space }
     {
         sink.write_all(self.answers.as_bytes())?;
         self.answers.clear();
@@ -61,7 +62,8 @@ impl Desk {
     pub(crate) fn write_piece<W: Write>(&mut self, sink: &mut W) -> io::Result<()>
         ensures sink { OnOk result ((bs : List ℕ) × Appends (W.contents sink.old) (W.contents sink.new) bs × (string_bytes self.old.answers ≡ bs ++ string_bytes self.new.answers)) }
         ensures answers { OnOk result (string_len self.new.answers < 65536) }
-        ensures output { offered self.new ≡ offered self.old }
+        ensures output { self.new.output ≡ self.old.output }
+        ensures space { self.new.space ≡ self.old.space }
     {
         if self.answers.len() < PIECE {
             return Ok(());
