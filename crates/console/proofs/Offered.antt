@@ -25,3 +25,14 @@ after_by (suc k) n xs [] h l = absurd (omega (arith, l))
 -- another content of the front leaves the rest
 pub front_after : (n : ℕ) (xs ys : List ℕ) → length ys ≡ min n (length xs) → take n (ys ++ drop (min n (length xs)) xs) ≡ ys
 front_after n xs ys h = after_by (min n (length xs)) n xs ys refl h
+
+rest_by : (k n : ℕ) (xs ys : List ℕ) → k ≡ min n (length xs) → length ys ≡ k → drop n (ys ++ drop k xs) ≡ drop n xs
+rest_by zero n xs [] h l = refl
+rest_by (suc k) zero xs (y ∷ ys) h l = absurd (omega (arith, h))
+rest_by (suc k) (suc n) [] (y ∷ ys) h l = absurd (omega (arith, h))
+rest_by (suc k) (suc n) (x ∷ xs) (y ∷ ys) h l = rest_by k n xs ys (omega (arith, h)) (omega (arith, l))
+rest_by zero n xs (y ∷ ys) h l = absurd (omega (arith, l))
+rest_by (suc k) n xs [] h l = absurd (omega (arith, l))
+
+pub rest_after : (n : ℕ) (xs ys : List ℕ) → length ys ≡ min n (length xs) → drop n (ys ++ drop (min n (length xs)) xs) ≡ drop n xs
+rest_after n xs ys h = rest_by (min n (length xs)) n xs ys refl h

@@ -1,5 +1,5 @@
 -- What each call prints, without the newline; what is called words stands behind the word of a call.
-use Rattle.std.specs.Prelude.{◌≡◌, ℕ, List, [], ◌∷◌, ◌++◌, take, Some, None, Ok, Err, cond, codes, decimal, Option, Result, string_bytes}
+use Rattle.std.specs.Prelude.{◌≡◌, ℕ, List, [], ◌∷◌, ◌++◌, take, drop, Some, None, Ok, Err, cond, codes, decimal, Option, Result, string_bytes}
 use Rattle.ratchet.specs.declared.copies.Holding.{Holding}
 use Rattle.ratchet.specs.declared.ids.Id.{Id}
 use Rattle.ratchet.specs.Suite.{Meaning}
@@ -33,6 +33,10 @@ use Rattle.script.specs.Words.{hex_word}
 -- what calls are offered for their output
 abbrev pub offered : Desk → List ℕ
 offered d = take d.space d.output.items
+
+-- a call writes nothing of the output behind what it is offered, and leaves how much that is
+abbrev pub KeepsRest : Desk → Desk → Type 0
+KeepsRest old new = (drop new.space new.output.items ≡ drop old.space old.output.items) × (new.space ≡ old.space)
 
 -- the line is put behind the answers on the desk
 abbrev pub Adds : Desk → List ℕ → Desk → Type 0

@@ -7,7 +7,7 @@ use Rattle.script.specs.declared.commands.Command.TheVariants.{Archive, Space, C
 use Rattle.script.specs.declared.commands.Plan.{Plan}
 use Rattle.script.specs.Commands.{call_line, command_line, LawfulCall, Lawful}
 use Rattle.console.specs.declared.desk.Desk.{Desk}
-use Rattle.console.specs.Lines.{Adds, offered}
+use Rattle.console.specs.Lines.{Adds, offered, KeepsRest}
 
 -- empty lines and comments
 abbrev pub silent : List ℕ → Bool
@@ -42,7 +42,7 @@ module _ {S : Type 0} (says : S → List ℕ → AnyCall → Option (List ℕ)) 
   abbrev pub Done : Command → S → Desk → Option Plan → S → Desk → Type 0
   Done (Archive p) s d plan t e = (plan ≡ Some p) × (t ≡ s) × (e ≡ d)
   Done (Space n) s d plan t e = (plan ≡ None) × (t ≡ s) × (length (offered e) ≡ n) × Adds d (ended (space_line n)) e
-  Done (Call c) s d plan t e = (plan ≡ None) × leaves s (offered d) c t (offered e) × IsSomeAnd (says s (offered d) c) (λ line. Adds d (ended line) e)
+  Done (Call c) s d plan t e = (plan ≡ None) × leaves s (offered d) c t (offered e) × IsSomeAnd (says s (offered d) c) (λ line. Adds d (ended line) e) × KeepsRest d e
 
   -- a line is done as a lawful command that is written so, or is bad and called so
   abbrev pub Answered : List ℕ → ℕ → S → Desk → Option Plan → S → Desk → Type 0

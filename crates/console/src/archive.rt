@@ -10,7 +10,7 @@ ghost use Rattle.store.specs.Meaning.{looked, nexted, taken};
 ghost use Rattle.intake.specs.Taking.{bytes_taken};
 ghost use Rattle.sending.specs.Sender.{new_sender, seal_output, after_seal, share_output};
 ghost use Rattle.console.specs.Fronts.{written_front, opened_front, moved_words};
-ghost use Rattle.console.specs.Lines.{Adds, Says, offered, accepted, sender_line, seal_line, share_line, take_line, dispute_line, look_line, next_line, open_line, free_line, floor_line, advance_words, advance_line};
+ghost use Rattle.console.specs.Lines.{Adds, Says, offered, KeepsRest, accepted, sender_line, seal_line, share_line, take_line, dispute_line, look_line, next_line, open_line, free_line, floor_line, advance_words, advance_line};
 ghost use Rattle.console.specs.Serving.{sender_now};
 
 use crate::answers::{Hex, Refusal};
@@ -142,6 +142,7 @@ impl<P: Suite, S: Store<Id, Holding<P>>> Archive<S, P> {
     fn open(&self, id: Id, message: &[u8], desk: &mut Desk) -> Result<(), AllocError>
         ensures line { OnOk result (Adds desk.old (open_line P.suite (S.means self.now.store) id message.now (offered desk.old)) desk.new) }
         ensures output { OnOk result (offered desk.new ≡ open_output (unsealed P.suite (looked id_number (S.means self.now.store) id) message.now) (offered desk.old)) }
+        ensures rest { KeepsRest desk.old desk.new }
     {
         let opened = open_within(&self.store, id, message, &mut desk.output, desk.space);
         add_opened(desk, opened)
@@ -191,6 +192,7 @@ impl<P: Suite, S: Store<Id, Holding<P>>> Archive<S, P> {
 fn seal<P: Suite>(sender: &mut Sender<P>, text: &[u8], desk: &mut Desk) -> Result<(), AllocError>
     ensures line { OnOk result (Adds desk.old (seal_line P.suite sender.old text.now (offered desk.old)) desk.new) }
     ensures output { offered desk.new ≡ seal_output P.suite sender.old text.now (offered desk.old) }
+    ensures rest { KeepsRest desk.old desk.new }
     ensures sender { sender.new ≡ after_seal P.suite sender.old text.now (offered desk.old) }
 {
     let written = seal_within(sender, text, &mut desk.output, desk.space);
@@ -200,6 +202,7 @@ fn seal<P: Suite>(sender: &mut Sender<P>, text: &[u8], desk: &mut Desk) -> Resul
 fn share<P: Suite>(sender: &Sender<P>, index: u32, desk: &mut Desk) -> Result<(), AllocError>
     ensures line { OnOk result (Adds desk.old (share_line P.suite sender.now index (offered desk.old)) desk.new) }
     ensures output { offered desk.new ≡ share_output P.suite sender.now index (offered desk.old) }
+    ensures rest { KeepsRest desk.old desk.new }
 {
     let written = share_within(sender, index, &mut desk.output, desk.space);
     add_written(desk, "share", written.map_err(Refusal::of))

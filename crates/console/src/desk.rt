@@ -1,5 +1,5 @@
 // Answers that are not written out yet, and the memory that calls are offered for their output.
-ghost use Rattle.std.specs.Prelude.{◌≡◌, ℕ, ◌<◌, ◌≤◌, ◌^◌, List, [], ◌++◌, min, length, take, IfOk, vec_len, string_bytes, string_len, OnOk};
+ghost use Rattle.std.specs.Prelude.{◌≡◌, ℕ, ◌<◌, ◌≤◌, List, [], ◌++◌, length, take, IfOk, vec_len, string_bytes, string_len, OnOk};
 ghost use Rattle.std.specs.Io.KnownBytes.{Appends};
 
 use std::alloc::{AllocError, Global};
@@ -38,6 +38,7 @@ impl Desk {
     // Sets how much of the output a call is offered. The most is there from the start, so nothing is written here.
     pub(crate) fn offer(&mut self, space: usize) -> Result<(), AllocError>
         ensures space { OnOk result (length (offered self.new) ≡ space) }
+        ensures output { space ≤ vec_len self.old.output → self.new.output ≡ self.old.output }
         ensures answers { self.new.answers ≡ self.old.answers }
     {
         if self.output.len() < space {

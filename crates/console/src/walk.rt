@@ -1,11 +1,11 @@
 // The walk over the lines of a script.
-ghost use Rattle.std.specs.Prelude.{◌≡◌, ℕ, true, false, List, IfOk, Ok, Err, Option, None, OnOk, OnSome, IsSomeAnd, length};
+ghost use Rattle.std.specs.Prelude.{◌≡◌, ◌≤◌, ℕ, true, false, List, IfOk, Ok, Err, Option, None, OnOk, OnSome, IsSomeAnd, length, vec_len};
 ghost use Rattle.script.specs.declared.commands.Call.{Call};
 ghost use Rattle.script.specs.declared.fault.LineFault.TheVariants.{BadLine};
 ghost use Rattle.script.specs.declared.commands.Command.{Command};
 ghost use Rattle.script.specs.Commands.{command_line, Lawful};
 ghost use Rattle.script.specs.Script.{unread, IsShorter};
-ghost use Rattle.console.specs.Lines.{Adds, offered};
+ghost use Rattle.console.specs.Lines.{Adds, offered, KeepsRest};
 ghost use Rattle.console.specs.Walking.{silent, ended, space_line, Bad, Done, Answered};
 
 use crate::desk::Desk;
@@ -30,11 +30,13 @@ pub(crate) trait Serves {
         ensures server { result ≡ Err BadLine → self.new ≡ self.old }
         ensures desk { result ≡ Err BadLine → desk.new ≡ desk.old }
         ensures says { OnOk result (IsSomeAnd (says self.old (offered desk.old) call) (λ line. Adds desk.old (ended line) desk.new)) }
-        ensures leaves { OnOk result (leaves self.old (offered desk.old) call self.new (offered desk.new)) };
+        ensures leaves { OnOk result (leaves self.old (offered desk.old) call self.new (offered desk.new)) }
+        ensures rest { OnOk result (KeepsRest desk.old desk.new) };
 }
 
 fn set_space(desk: &mut Desk, space: usize) -> Result<(), AllocError>
-    ensures { OnOk result ((length (offered desk.new) ≡ space) × Adds desk.old (ended (space_line space)) desk.new) }
+    ensures line { OnOk result ((length (offered desk.new) ≡ space) × Adds desk.old (ended (space_line space)) desk.new) }
+    ensures output { space ≤ vec_len desk.old.output → desk.new.output ≡ desk.old.output }
 {
     desk.offer(space)?;
     writeln!(desk.answers, "space {space}")
